@@ -1,0 +1,19 @@
+-- The mathematics of the definitions.
+
+pub mod Says
+pub mod Lists
+pub mod Ruled
+pub mod Ordered
+pub mod Route
+pub mod Walked
+pub mod Decide
+pub mod Unique
+pub mod Better
+pub mod Sets
+pub mod Search
+pub mod Exists
+pub mod Written
+pub mod Strip
+pub mod Runs
+pub mod Demands
+pub mod Samples

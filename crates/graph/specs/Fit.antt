@@ -1,0 +1,74 @@
+-- When a rule fits two labels.
+-- Assumes nothing.
+use mathlib.Core.Path.{_≡_}
+use mathlib.Core.Bool.{Bool, true, false, _||_}
+use mathlib.Core.List.{List, [], _∷_, List·Memᴰ}
+use Prim.Native.Nat.{ℕ}
+use lib.Dec.{eqb}
+use Rattle.graph.specs.declared.Label.{Label}
+use Rattle.graph.specs.declared.Label.the-variants.{Store, Load, Fence}
+use Rattle.graph.specs.declared.Side.{Side}
+use Rattle.graph.specs.declared.Side.the-variants.{Any, Is}
+use Rattle.graph.specs.declared.Rule.{Rule}
+use Rattle.graph.specs.declared.Want.{Want}
+use Rattle.graph.specs.declared.Want.the-variants.{Never, Free, Var}
+
+-- "its sides match them under one assignment of addresses to variables. The wildcard matches every label, fences too."
+abbrev pub Matches : (ℕ → ℕ) → Side → Label → Type 0
+Matches σ Any l = Unit {0}
+Matches σ (Is (Store x)) (Store a) = σ x ≡ a
+Matches σ (Is (Store x)) (Load a) = ⊥
+Matches σ (Is (Store x)) Fence = ⊥
+Matches σ (Is (Load x)) (Store a) = ⊥
+Matches σ (Is (Load x)) (Load a) = σ x ≡ a
+Matches σ (Is (Load x)) Fence = ⊥
+Matches σ (Is Fence) (Store a) = ⊥
+Matches σ (Is Fence) (Load a) = ⊥
+Matches σ (Is Fence) Fence = Unit {0}
+
+-- "A rule fits two labels if its sides match them under one assignment .. Variables 1 and 2 may have the same address."
+abbrev pub Fits : Rule → Label → Label → Type 0
+Fits r p q = (σ : ℕ → ℕ) × Matches σ (r .left) p × Matches σ (r .right) q
+
+-- "some rule fits their labels"
+abbrev pub Ruled : List Rule → Label → Label → Type 0
+Ruled rules p q = (r : Rule) × List·Memᴰ r rules × Fits r p q
+
+-- ---- the tests that decide them
+
+abbrev pub wantOf : Side → Label → Want
+wantOf Any l = Free
+wantOf (Is (Store x)) (Store a) = Var x a
+wantOf (Is (Store x)) (Load a) = Never
+wantOf (Is (Store x)) Fence = Never
+wantOf (Is (Load x)) (Store a) = Never
+wantOf (Is (Load x)) (Load a) = Var x a
+wantOf (Is (Load x)) Fence = Never
+wantOf (Is Fence) (Store a) = Never
+wantOf (Is Fence) (Load a) = Never
+wantOf (Is Fence) Fence = Free
+
+abbrev pub ifSame : Bool → Bool → Bool
+ifSame true b = b
+ifSame false b = true
+
+abbrev pub agree : Want → Want → Bool
+agree Never b = false
+agree Free Never = false
+agree Free Free = true
+agree Free (Var y n) = true
+agree (Var x m) Never = false
+agree (Var x m) Free = true
+agree (Var x m) (Var y n) = ifSame (eqb x y) (eqb m n)
+
+abbrev pub fitOf : Rule → Label → Label → Bool
+fitOf r p q = agree (wantOf (r .left) p) (wantOf (r .right) q)
+
+-- some of a list passes
+module _ {A : Type 0} where
+  abbrev pub someb : (A → Bool) → List A → Bool
+  someb f [] = false
+  someb f (x ∷ xs) = f x || someb f xs
+
+abbrev pub ruledb : List Rule → Label → Label → Bool
+ruledb rules p q = someb (λ r. fitOf r p q) rules

@@ -1,0 +1,33 @@
+-- A graph: labels of nodes, and edges; both numbered from 0.
+-- Assumes nothing.
+use mathlib.Core.Path.{_≡_}
+use mathlib.Core.List.{List, []}
+use Prim.Native.Nat.{ℕ, _<_, _≤_}
+use lib.ListN.{length, getD}
+use Rattle.graph.specs.declared.Edge.{Edge}
+use Rattle.graph.specs.declared.Label.{Label}
+use Rattle.graph.specs.declared.Label.the-variants.{Fence}
+
+-- "Nodes, edges and orders are numbered from 0 in file order."
+pub record Graph : Type 0 where
+  pub nodes : List Label
+  pub edges : List Edge
+
+-- "Least: none of each."
+abbrev pub no-graph : Graph
+no-graph = record { nodes = []; edges = [] }
+
+-- past the nodes it reads as a fence, so that a fence put in at the end changes no label
+abbrev pub label : Graph → ℕ → Label
+label g x = getD (g .nodes) x Fence
+
+abbrev pub no-edge : Edge
+no-edge = record { from = 0; to = 0; weight = 0 }
+
+abbrev pub edge : Graph → ℕ → Edge
+edge g i = getD (g .edges) i no-edge
+
+-- "Edge weight is 1 to 65,535 .. the same pair (from, to) twice isn't": ends are nodes, no weight is 0, no pair stands twice
+pub record Sound (g : Graph) : Type 0 where
+  pub ends : (i : ℕ) → i < length (g .edges) → ((edge g i) .from < length (g .nodes)) × ((edge g i) .to < length (g .nodes)) × (1 ≤ (edge g i) .weight)
+  pub pairs : (i j : ℕ) → i < length (g .edges) → j < length (g .edges) → (edge g i) .from ≡ (edge g j) .from → (edge g i) .to ≡ (edge g j) .to → i ≡ j

@@ -1,0 +1,116 @@
+-- The sample graphs of document 01.
+-- Assumes nothing.
+use mathlib.Core.List.{List, [], _∷_, _++_, List·Memᴰ}
+use mathlib.Core.Path.{_≡_}
+use Prim.Native.Nat.{ℕ}
+use Rattle.graph.specs.declared.Edge.{Edge}
+use Rattle.graph.specs.declared.Label.the-variants.{Fence, Load, Store}
+use Rattle.graph.specs.declared.Order.{Order}
+use Rattle.graph.specs.declared.Rule.{Rule}
+use Rattle.graph.specs.declared.Side.{Side}
+use Rattle.graph.specs.declared.Side.the-variants.{Any, Is}
+use Rattle.graph.specs.Ask.{Asked}
+use Rattle.graph.specs.Cut.{ChosenCut, weight, total}
+use Rattle.graph.specs.Graph.{Graph, Sound, no-graph}
+use Rattle.graph.specs.Held.{Held}
+use Rattle.graph.specs.Strip.{StripTo}
+use Rattle.graph.specs.Written.{written}
+
+abbrev pub rule : Side → Side → Rule
+rule l r = record { left = l; right = r }
+
+abbrev pub ed : ℕ → ℕ → ℕ → Edge
+ed j k w = record { from = j; to = k; weight = w }
+
+abbrev pub or : ℕ → ℕ → Order
+or a b = record { first = a; second = b }
+
+abbrev pub fence-rules : List Rule
+fence-rules = rule Any (Is Fence) ∷ rule (Is Fence) Any ∷ []
+
+abbrev pub D-rules : List Rule
+D-rules = rule Any (Is Fence) ∷ rule (Is Fence) Any ∷ rule (Is (Store 1)) (Is (Store 2)) ∷ rule (Is (Load 1)) (Is (Load 2)) ∷ []
+
+-- D, with its first edge of weight w
+abbrev pub D-of : ℕ → Graph
+D-of w = record { nodes = Store 7 ∷ Store 9 ∷ Load 7 ∷ Load 9 ∷ []; edges = ed 0 1 w ∷ ed 1 2 1 ∷ ed 1 3 1 ∷ [] }
+
+abbrev pub D-orders : List Order
+D-orders = or 0 2 ∷ or 0 3 ∷ or 0 1 ∷ []
+
+abbrev pub diamond : Graph
+diamond = record { nodes = Store 1 ∷ Store 2 ∷ Fence ∷ Load 3 ∷ []; edges = ed 0 1 1 ∷ ed 1 3 1 ∷ ed 0 2 1 ∷ ed 2 3 1 ∷ [] }
+
+abbrev pub loop : Graph
+loop = record { nodes = Store 1 ∷ Store 2 ∷ Load 3 ∷ []; edges = ed 0 1 1 ∷ ed 1 0 1 ∷ ed 1 2 1 ∷ [] }
+
+-- a sample: what it is, and below what it claims
+pub data Sample : Type 0 where
+  -- with this graph, rules and orders: those are held, the cut is this, and its weight this
+  ran : Graph → List Rule → List Order → (held : List Order) → (cut : List ℕ) → (total : ℕ) → Sample
+  -- the order asked, and the route shown; none where it is held
+  asked : Graph → List Rule → Order → (route : List ℕ) → Sample
+  -- what is written for that cut, stripped to so many nodes, is the graph again, and the weight is this
+  off : (count : ℕ) → List Order → Graph → (cut : List ℕ) → (total : ℕ) → Sample
+  -- an order names a node that would go
+  not-off : (count : ℕ) → List Order → Graph → Sample
+
+abbrev pub Claim : Sample → Type 0
+Claim (ran g rules orders held cut total) =
+    Sound g × ((o : Order) → List·Memᴰ o held → Held g rules o) × ChosenCut g rules orders cut × (weight g cut ≡ total)
+Claim (asked g rules o route) = Sound g × Asked g rules o route
+Claim (off count orders g cut total) = StripTo count orders (written g cut) total g
+Claim (not-off count orders g) = (total : ℕ) (left : Graph) → ¬ StripTo count orders g total left
+
+abbrev pub samples : List Sample
+samples =
+    ran (D-of 3) D-rules D-orders (or 0 1 ∷ []) (1 ∷ 2 ∷ []) 2  -- P1
+    ∷ ran (D-of 2) D-rules D-orders [] (0 ∷ []) 2  -- P2
+    ∷ ran (D-of 1) D-rules D-orders [] (0 ∷ []) 1  -- P3
+    ∷ ran (D-of 3) (D-rules ++ (rule (Is (Store 1)) (Is (Load 1)) ∷ [])) D-orders D-orders [] 0  -- P4
+    ∷ ran (D-of 3) D-rules (or 2 0 ∷ []) (or 2 0 ∷ []) [] 0  -- P5
+    ∷ ran diamond D-rules (or 0 3 ∷ []) [] (0 ∷ 2 ∷ []) 2  -- P6
+    ∷ ran loop fence-rules (or 0 2 ∷ []) [] (0 ∷ []) 1  -- P7
+    ∷ ran no-graph fence-rules [] [] [] 0  -- P8
+    ∷ asked (D-of 3) D-rules (or 0 2) (0 ∷ 1 ∷ 2 ∷ [])  -- P9
+    ∷ asked (D-of 3) D-rules (or 0 1) []  -- P10
+    ∷ off 4 D-orders (D-of 3) (1 ∷ 2 ∷ []) 2  -- P11
+    ∷ not-off 3 D-orders (D-of 3)  -- P12
+    ∷ []
+
+-- what the plausible wrong programs of document 01 get wrong, beside P4 (the third) and P1 (the fifth)
+abbrev pub more-samples : List Sample
+more-samples =
+    -- 1: two stores to one address, variables 1 and 2
+    ran (record { nodes = Store 7 ∷ Store 7 ∷ []; edges = ed 0 1 1 ∷ [] }) D-rules (or 0 1 ∷ []) (or 0 1 ∷ []) [] 0
+    -- one variable, two addresses
+    ∷ ran
+    (record { nodes = Store 7 ∷ Load 9 ∷ []; edges = ed 0 1 1 ∷ [] })
+    (rule Any (Is Fence) ∷ rule (Is Fence) Any ∷ rule (Is (Store 1)) (Is (Load 1)) ∷ [])
+    (or 0 1 ∷ [])
+    []
+    (0 ∷ [])
+    1
+    -- 2: the second route through node 2 has no fence
+    ∷ ran
+    (record { nodes = Store 1 ∷ Fence ∷ Store 2 ∷ Load 3 ∷ []; edges = ed 0 1 1 ∷ ed 1 2 1 ∷ ed 2 3 1 ∷ ed 0 2 1 ∷ [] })
+    fence-rules
+    (or 0 3 ∷ [])
+    []
+    (2 ∷ [])
+    1
+    -- 4: each order cut by itself would weigh 4
+    ∷ ran
+    (record { nodes = Store 7 ∷ Store 9 ∷ Load 7 ∷ Load 9 ∷ []; edges = ed 0 1 3 ∷ ed 1 2 2 ∷ ed 1 3 2 ∷ [] })
+    D-rules
+    D-orders
+    []
+    (0 ∷ [])
+    3
+    -- ask: the first by node numbers is not the first by edge numbers
+    ∷ asked
+    (record { nodes = Store 1 ∷ Store 2 ∷ Store 3 ∷ Load 4 ∷ []; edges = ed 0 2 1 ∷ ed 2 3 1 ∷ ed 0 1 1 ∷ ed 1 3 1 ∷ [] })
+    fence-rules
+    (or 0 3)
+    (0 ∷ 1 ∷ 3 ∷ [])
+    ∷ []

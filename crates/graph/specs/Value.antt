@@ -1,0 +1,32 @@
+-- The lists that a graph by value holds: the first of each array, as many as it counts.
+-- Assumes nothing.
+use mathlib.Core.List.{List, [], _∷_}
+use Prim.Native.Nat.{ℕ, _≤_}
+use lib.ListN.{take}
+use Rattle.graph.specs.declared.Graph as Value
+use Rattle.graph.specs.declared.Label.{Label}
+use Rattle.graph.specs.declared.Node.{Node}
+use Rattle.graph.specs.declared.Order.{Order}
+use Rattle.graph.specs.declared.Rule.{Rule}
+use Rattle.graph.specs.Graph.{Graph}
+use Rattle.graph.specs.Limits.{most-nodes, most-edges, most-rules, most-orders}
+
+abbrev pub labels : List Node → List Label
+labels [] = []
+labels (n ∷ ns) = n .label ∷ labels ns
+
+abbrev pub graphOf : Value.Graph → Graph
+graphOf g = record { nodes = labels (take (g .«node_count») (g .nodes)); edges = take (g .«edge_count») (g .edges) }
+
+abbrev pub rulesOf : Value.Graph → List Rule
+rulesOf g = take (g .«rule_count») (g .rules)
+
+abbrev pub ordersOf : Value.Graph → List Order
+ordersOf g = take (g .«order_count») (g .orders)
+
+-- no count passes its limit
+pub record Sized (g : Value.Graph) : Type 0 where
+  pub nodes : g .«node_count» ≤ most-nodes
+  pub edges : g .«edge_count» ≤ most-edges
+  pub rules : g .«rule_count» ≤ most-rules
+  pub orders : g .«order_count» ≤ most-orders
