@@ -1,15 +1,18 @@
 -- The lists that a graph by value holds: the first of each array, as many as it counts.
 -- Assumes nothing.
+use mathlib.Core.Bool.{Bool, false, true}
 use mathlib.Core.List.{List, [], _∷_}
-use Prim.Native.Nat.{ℕ, _≤_}
-use lib.ListN.{take}
-use Rattle.graph.specs.declared.Graph as Value
+use mathlib.Core.Path.{_≡_}
+use Prim.Native.Nat.{ℕ, _≤_, _<_, suc}
+use lib.ListN.{take, getD, length}
 use Rattle.graph.specs.declared.Label.{Label}
 use Rattle.graph.specs.declared.Node.{Node}
 use Rattle.graph.specs.declared.Order.{Order}
 use Rattle.graph.specs.declared.Rule.{Rule}
-use Rattle.graph.specs.Graph.{Graph}
+use Rattle.graph.specs.Graph.{Graph, order}
+use Rattle.graph.specs.Held.{Held, Open}
 use Rattle.graph.specs.Limits.{most-nodes, most-edges, most-rules, most-orders}
+use Rattle.graph.specs.declared.Graph as Value
 
 abbrev pub labels : List Node → List Label
 labels [] = []
@@ -30,3 +33,14 @@ pub record Sized (g : Value.Graph) : Type 0 where
   pub edges : g .«edge_count» ≤ most-edges
   pub rules : g .«rule_count» ≤ most-rules
   pub orders : g .«order_count» ≤ most-orders
+
+-- flag i tells whether order i is open
+pub record Told (g : Value.Graph) (flags : List Bool) : Type 0 where
+  pub is-open : (i : ℕ) → i < length (ordersOf g) → getD flags i false ≡ true → Open (graphOf g) (rulesOf g) (order (ordersOf g) i)
+  pub is-held : (i : ℕ) → i < length (ordersOf g) → getD flags i false ≡ false → Held (graphOf g) (rulesOf g) (order (ordersOf g) i)
+
+-- the rising list of the numbers whose flags are set, the first flag being that of number n
+abbrev pub rising : ℕ → List Bool → List ℕ
+rising n [] = []
+rising n (true ∷ fs) = n ∷ rising (suc n) fs
+rising n (false ∷ fs) = rising (suc n) fs
