@@ -15,5 +15,6 @@ pub mod Exists
 pub mod Written
 pub mod Strip
 pub mod Runs
+pub mod Value
 pub mod Demands
 pub mod Samples

@@ -126,7 +126,7 @@ module _ (g : Graph) (e : ℕ) (fits : e < length (g .edges)) where
   weights-same (i ∷ c) w = ap₂ _+_ (weight-same i (w .0)) (weights-same c (w .1))
 
 -- one more at the end
-stripped-snoc : {g h : Graph} {total : ℕ} → Stripped g total h → (v i m : ℕ) → Loose h v i m → (k : ℕ) → k ≡ total + (edge h i) .weight → Stripped g k (joined h v i m)
+pub stripped-snoc : {g h : Graph} {total : ℕ} → Stripped g total h → (v i m : ℕ) → Loose h v i m → (k : ℕ) → k ≡ total + (edge h i) .weight → Stripped g k (joined h v i m)
 stripped-snoc {g} {h} done v i m l k e = subst (λ (t : ℕ). Stripped h t (joined h v i m)) (omega arith) (take-off v i m l done)
 stripped-snoc {g} {h} (take-off {total = total} v′ i′ m′ l′ s) v i m l k e =
     subst (λ (t : ℕ). Stripped g t (joined h v i m)) (omega arith) (take-off v′ i′ m′ l′ (stripped-snoc s v i m l (total + (edge h i) .weight) refl))
@@ -146,7 +146,7 @@ stripped-trans {g} {h} {k} {s} {t} (take-off {total = total} v i m l p) q =
     subst⁻¹ (λ (x : ℕ). Stripped g x k) (add-assoc ((edge g i) .weight) total t) (take-off v i m l (stripped-trans p q))
 
 -- it takes nodes off
-joined-count : {g : Graph} {v i m : ℕ} → Loose g v i m → length ((joined g v i m) .nodes) ≡ v
+pub joined-count : {g : Graph} {v i m : ℕ} → Loose g v i m → length ((joined g v i m) .nodes) ≡ v
 joined-count {g} {v} l = length-take-le v (g .nodes) (omega (arith, l .highest))
 
 pub stripped-fewer : {g h : Graph} {t : ℕ} → Stripped g t h → length (h .nodes) ≤ length (g .nodes)

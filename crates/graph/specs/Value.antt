@@ -34,6 +34,13 @@ pub record Sized (g : Value.Graph) : Type 0 where
   pub rules : g .«rule_count» ≤ most-rules
   pub orders : g .«order_count» ≤ most-orders
 
+-- each array is as long as its limit
+pub record Roomy (g : Value.Graph) : Type 0 where
+  pub nodes : length (g .nodes) ≡ most-nodes
+  pub edges : length (g .edges) ≡ most-edges
+  pub rules : length (g .rules) ≡ most-rules
+  pub orders : length (g .orders) ≡ most-orders
+
 -- flag i tells whether order i is open
 pub record Told (g : Value.Graph) (flags : List Bool) : Type 0 where
   pub is-open : (i : ℕ) → i < length (ordersOf g) → getD flags i false ≡ true → Open (graphOf g) (rulesOf g) (order (ordersOf g) i)

@@ -6,7 +6,7 @@ ghost use lib.ListN.{take};
 ghost use Rattle.graph.specs.Fit.{wantOf, fitOf, ruledb};
 ghost use Rattle.graph.specs.Graph.{no-graph};
 ghost use Rattle.graph.specs.Limits.{most-rules};
-ghost use Rattle.graph.specs.Value.{graphOf, rulesOf, ordersOf, Sized};
+ghost use Rattle.graph.specs.Value.{graphOf, rulesOf, ordersOf, Sized, Roomy};
 
 // What a node does, and to which address; in a rule's side the number is a variable.
 pub enum Label {
@@ -63,7 +63,7 @@ impl Graph {
     pub const ORDERS: usize = 32;
 
     pub fn empty() -> Self
-        ensures { λ r. ⌜ (graphOf r ≡ no-graph) × (rulesOf r ≡ []) × (ordersOf r ≡ []) × Sized r ⌝ }
+        ensures { λ r. ⌜ (graphOf r ≡ no-graph) × (rulesOf r ≡ []) × (ordersOf r ≡ []) × Sized r × Roomy r ⌝ }
     {
         Graph {
             nodes: [Node {

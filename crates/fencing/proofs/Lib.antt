@@ -1,0 +1,8 @@
+-- The laws of fences put on and taken off.
+pub mod Flags
+pub mod Placed
+pub mod Along
+pub mod Scan
+pub mod Tops
+pub mod Going
+pub mod Named

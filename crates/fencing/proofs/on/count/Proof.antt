@@ -1,0 +1,68 @@
+use mathlib.Core.Logic.{⊎-elim}
+use mathlib.Core.Bool.{Bool}
+use mathlib.Core.List.{List}
+use native.Mathlib.Omega.{arith}
+use lib.Seq.{drop-length}
+use Rattle.fencing.proofs.Flags.{rising-yes, rising-no}
+use Rattle.graph.specs.Value.{rising}
+use mathlib.Core.Path.{_≡_, ap, _∙_}
+use Prim.Native.Nat.{ℕ, _+_, _-_, _<_, _≤_}
+use lib.ListN.{length, drop}
+use borrow.Author.Needs.{needs}
+use Rattle.fencing.proofs.on.count.Statement.{statement}
+use Rattle.fencing.proofs.on.count.Tie as tie
+use Rattle.fencing.proofs.on.count.Reads as reads
+use Rattle.fencing.proofs.on.count.Lts as lts
+
+abbrev Inv-loop : tie.InvT-loop
+Inv-loop flags n₀ i₀ n i = (i ≤ 192) × (n ≤ i) × (n + length (rising i (drop i flags)) ≡ length (rising 0 flags))
+
+abbrev μ-loop : tie.MeasureT-loop
+μ-loop flags n₀ i₀ n i = 192 - i
+
+-- src/lib.rt:51:5
+loop-holds : tie.Need-loop-holds Inv-loop μ-loop
+loop-holds c = search needs
+
+-- src/lib.rt:52:12
+array-read-if1 : tie.Need-array-read-if1 Inv-loop μ-loop
+array-read-if1 c = search needs
+
+-- src/lib.rt:53:13
+add-n : tie.Need-add-n Inv-loop μ-loop
+add-n c = search needs
+
+-- src/lib.rt:51:9
+add-i : tie.Need-add-i Inv-loop μ-loop
+add-i c = search needs
+
+-- src/lib.rt:51:5
+loop-less : tie.Need-loop-less Inv-loop μ-loop
+loop-less c = search needs
+
+-- src/lib.rt:51:5
+loop-again : tie.Need-loop-again Inv-loop μ-loop
+loop-again c =
+    let flags = c .before .before .before .args .t1 in
+    let i = c .before .before .loop .i in
+    let inv = c .before .before .loop .inv in
+    let long : i < length flags = search needs in
+    ⊎-elim
+    (λ w. (search needs, omega (arith, w .1), omega (arith, w .1, ap length (rising-yes flags i long (w .0 .taken)))))
+    (λ w. (search needs, omega (arith, w .1), omega (arith, w .1, ap length (rising-no flags i long (w .0 .left)))))
+    (c .if1 .came)
+
+-- src/lib.rt:46:1
+returns : tie.Need-returns Inv-loop μ-loop
+returns c =
+    let flags = c .before .before .args .t1 in
+    let i = c .before .loop .i in
+    let inv = c .before .loop .inv in
+    let e : i ≡ length flags = search needs in
+    let z : length (rising i (drop i flags)) ≡ 0 = ap (λ (k : ℕ). length (rising k (drop k flags))) e ∙ ap (λ (l : List Bool). length (rising (length flags) l)) (drop-length flags) in
+    (omega (arith, z), omega arith)
+
+pub count-spec : {M : Type 1} → statement M
+count-spec =
+    tie.close
+    (tie.spec Inv-loop μ-loop loop-holds array-read-if1 add-n add-i loop-less loop-again returns)
