@@ -15,6 +15,7 @@ pub mod Exists
 pub mod Written
 pub mod Strip
 pub mod Runs
+pub mod Members
 pub mod Value
 pub mod Demands
 pub mod Samples

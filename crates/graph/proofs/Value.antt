@@ -11,7 +11,7 @@ use Rattle.graph.specs.declared.Label.{Label}
 use Rattle.graph.specs.declared.Label.the-variants.{Fence}
 use Rattle.graph.specs.declared.Node.{Node}
 use Rattle.graph.specs.Graph.{edge, no-edge, label}
-use Rattle.graph.specs.Value.{Roomy, Sized, graphOf, labels, ordersOf}
+use Rattle.graph.specs.Value.{Roomy, Sized, graphOf, labels, ordersOf, rulesOf}
 use Rattle.graph.specs.declared.Graph as Value
 
 pub labels-append : (xs ys : List Node) → labels (xs ++ ys) ≡ labels xs ++ labels ys
@@ -28,6 +28,9 @@ module _ (g : Value.Graph) (sized : Sized g) (roomy : Roomy g) where
 
   pub edge-total : length ((graphOf g) .edges) ≡ g .«edge_count»
   edge-total = length-take-le (g .«edge_count») (g .edges) (omega (arith, sized .edges, roomy .edges))
+
+  pub rule-total : length (rulesOf g) ≡ g .«rule_count»
+  rule-total = length-take-le (g .«rule_count») (g .rules) (omega (arith, sized .rules, roomy .rules))
 
   pub order-total : length (ordersOf g) ≡ g .«order_count»
   order-total = length-take-le (g .«order_count») (g .orders) (omega (arith, sized .orders, roomy .orders))

@@ -1,0 +1,79 @@
+-- `cut::lists::copied` meets its contract: edge by edge.
+-- Assumes nothing.
+use mathlib.Core.Path.{_≡_, refl}
+use Prim.Native.Nat.{_≤_, _-_}
+use native.Mathlib.Omega.{arith}
+use borrow.Author.Needs.{needs}
+use Rattle.cut.specs.Given.{Copied}
+use Rattle.cut.proofs.Drawn.{copied-none, copied-more}
+use Rattle.cut.proofs.lists.copied.Statement.{statement}
+use Rattle.cut.proofs.lists.copied.Tie as tie
+
+abbrev Inv-loop : tie.InvT-loop
+Inv-loop n edges l₀ e₀ l e = (e ≤ n) × Copied edges (l .from) (l .to) (l .weights) e
+
+abbrev μ-loop : tie.MeasureT-loop
+μ-loop n edges l₀ e₀ l e = n - e
+
+loop-holds : tie.Need-loop-holds Inv-loop μ-loop
+loop-holds c = (omega arith, copied-none _ _ _ _ refl refl refl)
+
+mul-x : tie.Need-mul-x Inv-loop μ-loop
+mul-x c = search needs
+
+array-copy-out-x : tie.Need-array-copy-out-x Inv-loop μ-loop
+array-copy-out-x c = search needs
+
+narrow-requires : tie.Need-narrow-requires Inv-loop μ-loop
+narrow-requires c κs = let l = c .before .before in omega (arith, l .before .pre .1 (l .loop .e) (c .before .loop-test .taken) .0)
+
+element-write-l : tie.Need-element-write-l Inv-loop μ-loop
+element-write-l c = search needs
+
+narrow-requires-2 : tie.Need-narrow-requires-2 Inv-loop μ-loop
+narrow-requires-2 c κs = let l = c .before .before .before in omega (arith, l .before .pre .1 (l .loop .e) (c .before .before .loop-test .taken) .1)
+
+element-write-l-2 : tie.Need-element-write-l-2 Inv-loop μ-loop
+element-write-l-2 c = search needs
+
+mul-l : tie.Need-mul-l Inv-loop μ-loop
+mul-l c = search needs
+
+element-write-l-3 : tie.Need-element-write-l-3 Inv-loop μ-loop
+element-write-l-3 c = search needs
+
+add-e : tie.Need-add-e Inv-loop μ-loop
+add-e c = search needs
+
+loop-less : tie.Need-loop-less Inv-loop μ-loop
+loop-less c = search needs
+
+loop-again : tie.Need-loop-again Inv-loop μ-loop
+loop-again c = let l = c .before .before .before .before in
+    let lt = c .before .before .before .loop-test .taken in
+    (omega arith, copied-more _ _ _ _ _ _ _ _ (omega (arith, lt, l .before .pre .0)) (l .loop .inv .1) (c .before .narrow .ensures) (c .narrow2 .ensures) refl)
+
+returns : tie.Need-returns Inv-loop μ-loop
+returns c = let l = c .before in
+    let z : l .loop .e ≡ l .before .args .n = omega (arith, l .loop .inv .0, c .loop-test .left) in
+    (search needs, rw z at (l .loop .inv .1))
+
+pub copied-spec : {M : Type 1} → statement M
+copied-spec =
+    tie.close
+    (tie.spec
+    Inv-loop
+    μ-loop
+    loop-holds
+    mul-x
+    array-copy-out-x
+    narrow-requires
+    element-write-l
+    narrow-requires-2
+    element-write-l-2
+    mul-l
+    element-write-l-3
+    add-e
+    loop-less
+    loop-again
+    returns)

@@ -1,0 +1,50 @@
+-- What the search is given of a graph by value: its edges as lists, and the ends of its open orders.
+-- Assumes nothing.
+use mathlib.Core.Bool.{Bool}
+use mathlib.Core.List.{List}
+use mathlib.Core.Logic.{_≢_}
+use mathlib.Core.Path.{_≡_}
+use Prim.Native.Nat.{ℕ, _+_, _<_, _≤_}
+use lib.ListN.{length, getD, set}
+use Rattle.cut.specs.declared.near.Pairs.{Pairs}
+use Rattle.graph.specs.declared.Edge.{Edge}
+use Rattle.graph.specs.declared.Order.{Order}
+use Rattle.cut.specs.Sets.{Has}
+use Rattle.graph.specs.Graph.{no-edge, order}
+use Rattle.graph.specs.Limits.{most-nodes, most-edges, most-orders}
+
+-- the first n edges end at nodes
+abbrev pub Ends : List Edge → ℕ → Type 0
+Ends edges n = (e : ℕ) → e < n → ((getD edges e no-edge) .from < most-nodes) × ((getD edges e no-edge) .to < most-nodes)
+
+-- the first n of each list are the ends and the weights of the first n edges
+pub record Copied (edges : List Edge) (xs ys ws : List ℕ) (n : ℕ) : Type 0 where
+  pub sizes : (length xs ≡ most-edges) × (length ys ≡ most-edges) × (length ws ≡ most-edges)
+  pub each : (e : ℕ) → e < n → (getD xs e 0 ≡ (getD edges e no-edge) .from) × (getD ys e 0 ≡ (getD edges e no-edge) .to) × (getD ws e 0 ≡ (getD edges e no-edge) .weight)
+
+-- the first m orders name nodes
+abbrev pub Named : List Order → ℕ → Type 0
+Named orders m = (i : ℕ) → i < m → ((order orders i) .first < most-nodes) × ((order orders i) .second < most-nodes)
+
+-- the first n pairs are of different nodes
+abbrev pub Differ : List ℕ → List ℕ → ℕ → Type 0
+Differ xs ys n = (k : ℕ) → k < n → (getD xs k 0 < most-nodes) × (getD ys k 0 < most-nodes) × (getD xs k 0 ≢ getD ys k 0)
+
+-- pair k is the ends of order i
+abbrev pub EndsOf : List Order → ℕ → List ℕ → List ℕ → ℕ → Type 0
+EndsOf orders i xs ys k = (getD xs k 0 ≡ (order orders i) .first) × (getD ys k 0 ≡ (order orders i) .second)
+
+-- the first n pairs are the ends of those of the first m orders whose flags are set
+pub record Gathered (orders : List Order) (flags : List Bool) (xs ys : List ℕ) (n m : ℕ) : Type 0 where
+  pub sizes : (length xs ≡ most-orders) × (length ys ≡ most-orders)
+  pub few : n ≤ m
+  pub each : (k : ℕ) → k < n → (i : ℕ) × (i < m) × Has flags i × EndsOf orders i xs ys k
+  pub all : (i : ℕ) → i < m → Has flags i → (k : ℕ) × (k < n) × EndsOf orders i xs ys k
+
+-- whatever the pairs of p are the ends of, those of r are too
+abbrev pub Keeps : Pairs → Pairs → Type 0
+Keeps p r = (orders : List Order) (flags : List Bool) (m : ℕ) → Gathered orders flags (p .firsts) (p .seconds) (p .count) m → Gathered orders flags (r .firsts) (r .seconds) (r .count) m
+
+-- elements j and j + 1 change places
+abbrev pub swapped : List ℕ → ℕ → List ℕ
+swapped l j = set (set l j (getD l (j + 1) 0)) (j + 1) (getD l j 0)

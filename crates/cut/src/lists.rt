@@ -1,0 +1,44 @@
+// The edges of a graph, as the search reads them.
+ghost use mathlib.Core.Path.{_≡_};
+ghost use Prim.Native.Nat.{_<_, _≤_};
+ghost use lib.ListN.{length};
+ghost use Rattle.graph.specs.Limits.{most-edges};
+ghost use Rattle.cut.specs.Given.{Ends, Copied};
+use graph::Edge;
+use graph::Graph;
+
+// The ends and the weights of the edges, a list for each.
+pub struct Lists {
+    pub from: [u8; Graph::EDGES],
+    pub to: [u8; Graph::EDGES],
+    pub weights: [u16; Graph::EDGES],
+}
+
+// A node's number in a byte.
+pub fn narrow(x: u16) -> u8
+    requires { ⌜ x < 256 ⌝ }
+    ensures { λ r. ⌜ r ≡ x ⌝ }
+{
+    x as u8
+}
+
+// The first n edges. The array's length is told back: as a field of a graph it is not known.
+pub fn copied(edges: [Edge; Graph::EDGES], n: usize) -> Lists
+    requires { ⌜ (n ≤ most-edges) × Ends edges n ⌝ }
+    ensures { λ r. ⌜ (length edges ≡ most-edges) × Copied edges (r .from) (r .to) (r .weights) n ⌝ }
+{
+    let mut l = Lists {
+        from: [0u8; Graph::EDGES],
+        to: [0u8; Graph::EDGES],
+        weights: [0u16; Graph::EDGES],
+    };
+    let mut e = 0;
+    while e < n {
+        let x = edges[e];
+        l.from[e] = narrow(x.from);
+        l.to[e] = narrow(x.to);
+        l.weights[e] = x.weight;
+        e += 1;
+    }
+    l
+}

@@ -1,0 +1,10 @@
+-- The laws of the public operations.
+pub mod Reading
+pub mod Unread
+pub mod Ran
+pub mod Fenced
+pub mod Showing
+pub mod Shows
+pub mod Off
+pub mod Freed
+pub mod Unique

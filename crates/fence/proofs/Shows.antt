@@ -1,0 +1,60 @@
+-- Ask over a graph by value: one law for each way out.
+-- Assumes nothing.
+use mathlib.Core.List.{List, [], _++_}
+use mathlib.Core.Path.{_∙_, _≡_, ap, subst, subst⁻¹, sym}
+use Prim.Native.Nat.{_<_, _≤_, ℕ}
+use native.Mathlib.Omega.{arith}
+use lib.ListN.{drop, getD, length}
+use lib.Seq.{getD-take}
+use Rattle.fence.specs.declared.Shown.{Shown}
+use Rattle.graph.specs.declared.Order.{Order}
+use Rattle.request.specs.declared.Answer.{Answer}
+use Rattle.request.specs.declared.Answer.the-variants.{NoSuchOrder, ShortBuffer}
+use Rattle.walk.specs.declared.Words.{Words}
+use Rattle.fence.specs.Outcome.{AskOutcome, Reads}
+use Rattle.fence.specs.Ready.{Ready}
+use Rattle.graph.specs.Ask.{Asked}
+use Rattle.graph.specs.Graph.{order, no-order}
+use Rattle.graph.specs.Limits.{most-nodes}
+use Rattle.graph.specs.Value.{graphOf, ordersOf, rulesOf}
+use Rattle.request.specs.Answers.{number}
+use Rattle.request.specs.Write.{requestIn}
+use Rattle.walk.specs.Words.{AskedOf, WordsOf}
+use Rattle.fence.proofs.Showing.{ask-accepted, ask-number, ask-short}
+use Rattle.graph.proofs.Strip.{place}
+use Rattle.graph.proofs.Value.{order-total}
+use Rattle.graph.specs.declared.Graph as Value
+
+module _ (g : Value.Graph) (ready : Ready g) (k : ℕ) (o : List ℕ) where
+  -- what is the case where ask refuses
+  abbrev pub Hides : Answer → Shown → Type 0
+  Hides a r = r ≡ record { answer = number a; place = 0; length = 0 } → (s : List ℕ) → Reads s (requestIn g) → AskOutcome s k o r o
+
+  orders : length (ordersOf g) ≡ g .«order_count»
+  orders = order-total g (ready .sized) (ready .roomy)
+
+  pub unknown-order : g .«order_count» ≤ k → (r : Shown) → Hides NoSuchOrder r
+  unknown-order h r e s reads = subst⁻¹ (λ (x : Shown). AskOutcome s k o x o) e (ask-number s (requestIn g) k reads o (omega (arith, orders)))
+
+  module _ (there : k < g .«order_count») where
+    pub few-entries : length o < most-nodes → (r : Shown) → Hides ShortBuffer r
+    few-entries h r e s reads = subst⁻¹ (λ (x : Shown). AskOutcome s k o x o) e (ask-short s (requestIn g) k reads o (omega (arith, orders)) h)
+
+    order-is : order (ordersOf g) k ≡ getD (g .orders) k no-order
+    order-is = getD-take (g .«order_count») (g .orders) k no-order there
+
+    -- its nodes are nodes
+    pub order-nodes : ((getD (g .orders) k no-order) .first < most-nodes) × ((getD (g .orders) k no-order) .second < most-nodes)
+    order-nodes =
+        let e = ready .proper .orderly .ends k (omega (arith, orders)) in
+        let n : length ((graphOf g) .nodes) ≤ most-nodes = ready .proper .few-nodes in
+        subst (λ (x : Order). (x .first < most-nodes) × (x .second < most-nodes)) order-is (omega (arith, e .0), omega (arith, e .1))
+
+    pub route-shown : most-nodes ≤ length o → (words : Words) → WordsOf (graphOf g) (rulesOf g) [] words → (route : List ℕ)
+        → AskedOf words ((getD (g .orders) k no-order) .first) ((getD (g .orders) k no-order) .second) route → (o′ : List ℕ) (n m : ℕ) → n ≡ m → length route ≡ m → o′ ≡ route ++ drop m o
+        → (s : List ℕ) → Reads s (requestIn g) → AskOutcome s k o (record { answer = 0; place = 0; length = n }) o′
+    route-shown h words of route shown o′ n m e l f s reads =
+        ask-accepted s (requestIn g) k reads o (omega (arith, orders)) h route
+        (subst⁻¹ (λ (x : Order). Asked (graphOf g) (rulesOf g) x route) order-is (shown (graphOf g) (rulesOf g) [] of)) _ o′
+        (λ i. record { answer = 0; place = 0; length = (e ∙ sym l) i })
+        (f ∙ ap (λ (j : ℕ). route ++ drop j o) (sym l))

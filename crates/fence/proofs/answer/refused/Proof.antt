@@ -1,0 +1,17 @@
+use borrow.Author.Needs.{needs}
+use Rattle.fence.proofs.answer.refused.Statement.{statement}
+use Rattle.fence.proofs.answer.refused.Tie as tie
+use Rattle.fence.proofs.answer.refused.Reads as reads
+use Rattle.fence.proofs.answer.refused.Lts as lts
+use Rattle.request.proofs.number.Reads as number-reads
+
+-- src/answer.rt:14:17
+number-requires : tie.Need-number-requires
+number-requires c κs = search needs
+
+-- src/answer.rt:10:1
+returns : tie.Need-returns
+returns c = λ i. record { answer = c .number .ensures i; place = c .before .args .place; fences = 0; weight = 0; length = 0 }
+
+pub refused-spec : {M : Type 1} → statement M
+refused-spec = tie.close (tie.spec number-requires returns)

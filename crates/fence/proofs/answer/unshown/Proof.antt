@@ -1,0 +1,17 @@
+use borrow.Author.Needs.{needs}
+use Rattle.fence.proofs.answer.unshown.Statement.{statement}
+use Rattle.fence.proofs.answer.unshown.Tie as tie
+use Rattle.fence.proofs.answer.unshown.Reads as reads
+use Rattle.fence.proofs.answer.unshown.Lts as lts
+use Rattle.request.proofs.number.Reads as number-reads
+
+-- src/answer.rt:26:17
+number-requires : tie.Need-number-requires
+number-requires c κs = search needs
+
+-- src/answer.rt:22:1
+returns : tie.Need-returns
+returns c = λ i. record { answer = c .number .ensures i; place = c .before .args .place; length = 0 }
+
+pub unshown-spec : {M : Type 1} → statement M
+unshown-spec = tie.close (tie.spec number-requires returns)

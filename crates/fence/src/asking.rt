@@ -1,0 +1,49 @@
+// Ask over the graph of an accepted file.
+use super::Shown;
+use super::answer::unshown;
+use graph::Graph;
+use request::Answer;
+ghost use mathlib.Core.List.{List, _++_};
+ghost use mathlib.Core.Path.{_≡_};
+ghost use Prim.Native.Nat.{ℕ, _≤_};
+ghost use lib.ListN.{length, take, drop};
+ghost use Rattle.graph.specs.Limits.{most-nodes};
+ghost use Rattle.request.specs.Write.{requestIn};
+ghost use Rattle.fence.specs.Outcome.{Reads, AskOutcome};
+ghost use Rattle.fence.specs.Ready.{Ready};
+
+// Copies the first n nodes of a route.
+fn put_route(out: &mut [u16], nodes: [u16; Graph::NODES], n: usize) -> usize
+    requires { ⌜ (n ≤ most-nodes) × (n ≤ length (now out)) ⌝ }
+    ensures { λ r. ⌜ (r ≡ n) × (length (take n nodes) ≡ n) ⌝ }
+    ensures { λ r. ⌜ now (out .exit) ≡ take n nodes ++ drop n (now (out .entry)) ⌝ }
+{
+    let mut i = 0;
+    while i < n {
+        out[i] = nodes[i];
+        i += 1;
+    }
+    i
+}
+
+pub fn ask(g: Graph, order: u64, route: &mut [u16]) -> Shown
+    requires { ⌜ Ready g ⌝ }
+    ensures { λ r. ⌜ ((s : List ℕ) → Reads s (requestIn g) → AskOutcome s order (now (route .entry)) r (now (route .exit))) ⌝ }
+{
+    if g.order_count as u64 <= order {
+        return unshown(Answer::NoSuchOrder, 0);
+    }
+    if route.len() < Graph::NODES {
+        return unshown(Answer::ShortBuffer, 0);
+    }
+    let words = walk::words_of(g);
+    let o = g.orders[order as usize];
+    let way = walk::open_route(words, o.first as usize, o.second as usize);
+    let nodes = way.nodes;
+    let length = put_route(route, nodes, way.len);
+    Shown {
+        answer: 0,
+        place: 0,
+        length: length as u64,
+    }
+}

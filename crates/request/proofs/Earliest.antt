@@ -1,0 +1,55 @@
+-- The earliest number that passes a test, and whether some number does.
+-- Assumes nothing.
+use mathlib.Core.Bool.{Bool, _||_, false, true}
+use mathlib.Core.Path.{_∙_, _≡_, ap, refl, sym}
+use Prim.Native.Nat.{_+_, _<_, _≤_, suc, zero, ℕ}
+use native.Mathlib.Decide.{ℕ-discrete}
+use native.Mathlib.Omega.{arith}
+use Rattle.request.specs.Pick.{any, earliest, earliestFrom, pick}
+
+earliestFrom-is : (p : ℕ → Bool) (n i j : ℕ) → i ≤ j → j < i + n → ((k : ℕ) → k < j → p k ≡ false) → p j ≡ true → earliestFrom p n i ≡ j
+unfolding earliestFrom
+earliestFrom-is p zero i j l h f e = absurd (omega arith)
+earliestFrom-is p (suc n) i j l h f e = go (ℕ-discrete i j) (λ m. earliestFrom-is p n (suc i) j m (omega arith) f e)
+  where
+    go : Dec (i ≡ j) → (suc i ≤ j → earliestFrom p n (suc i) ≡ j) → pick (p i) i (earliestFrom p n (suc i)) ≡ j
+    go (yes q) rec = let r : p i ≡ true = ap p q ∙ e in rw r q
+    go (no q) rec = rw (f i (omega (arith, q))) (rec (omega (arith, q)))
+
+pub earliest-is : (p : ℕ → Bool) (n j : ℕ) → j < n → ((k : ℕ) → k < j → p k ≡ false) → p j ≡ true → earliest p n ≡ j
+earliest-is p n j l f e = earliestFrom-is p n 0 j (omega arith) (omega arith) f e
+
+earliestFrom-none : (p : ℕ → Bool) (n i : ℕ) → ((k : ℕ) → k < i + n → p k ≡ false) → earliestFrom p n i ≡ i + n
+unfolding earliestFrom
+earliestFrom-none p zero i f = omega arith
+earliestFrom-none p (suc n) i f = rw (f i (omega arith)) (earliestFrom-none p n (suc i) (λ k h. f k (omega arith)) ∙ omega arith)
+
+pub earliest-none : (p : ℕ → Bool) (n : ℕ) → ((k : ℕ) → k < n → p k ≡ false) → earliest p n ≡ n
+earliest-none p n f = earliestFrom-none p n 0 (λ k h. f k (omega arith)) ∙ omega arith
+
+-- ---- some number passes a test
+
+pub any-yes : (p : ℕ → Bool) (n j : ℕ) → j < n → p j ≡ true → any p n ≡ true
+unfolding any
+any-yes p zero j l e = absurd (omega arith)
+any-yes p (suc n) j l e = go (ℕ-discrete j n) (λ m. any-yes p n j m e)
+  where
+    step : (b : Bool) → any p n ≡ true → (b || any p n) ≡ true
+    step true q = refl
+    step false q = q
+
+    go : Dec (j ≡ n) → (j < n → any p n ≡ true) → (p n || any p n) ≡ true
+    go (yes q) rec = let r : p n ≡ true = ap p (sym q) ∙ e in rw r refl
+    go (no q) rec = step (p n) (rec (omega (arith, q)))
+
+pub any-no : (p : ℕ → Bool) (n : ℕ) → ((k : ℕ) → k < n → p k ≡ false) → any p n ≡ false
+unfolding any
+any-no p zero f = refl
+any-no p (suc n) f = rw (f n (omega arith)) (any-no p n (λ k h. f k (omega arith)))
+
+-- a loop that looks at each number in turn and has looked at all n
+pub earliest-end : (p : ℕ → Bool) (n i : ℕ) → i ≤ n → n ≤ i → ((k : ℕ) → k < i → p k ≡ false) → i ≡ earliest p n
+earliest-end p n i a b f = sym (earliest-none p n (λ k h. f k (omega arith)) ∙ omega arith)
+
+pub any-end : (p : ℕ → Bool) (n i : ℕ) → i ≤ n → n ≤ i → ((k : ℕ) → k < i → p k ≡ false) → false ≡ any p n
+any-end p n i a b f = sym (any-no p n (λ k h. f k (omega arith)))

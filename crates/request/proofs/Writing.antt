@@ -1,0 +1,82 @@
+-- Writing one list of bytes after another.
+-- Assumes nothing.
+use mathlib.Core.List.{List, [], _++_, _∷_, append-assoc, append-nil, flatMap}
+use mathlib.Core.Path.{_∙_, _≡_, ap, refl, sym}
+use Prim.Native.Nat.{_+_, _<_, _≤_, ℕ}
+use native.Mathlib.Numerals.{add-one}
+use native.Mathlib.Omega.{arith}
+use lib.ListN.{drop, getD, length, length-append, length-drop, set, take, take-append-drop}
+use lib.Seq.{drop-append-add, drop-drop, length-take-le, sets-eq, take-at, take-suc}
+use Rattle.graph.specs.declared.Node.{Node}
+use Rattle.graph.specs.Value.{labels, ordersOf, rulesOf, Roomy, Sized}
+use Rattle.request.specs.File.{bytes, edge-bytes, node-bytes, order-bytes, rule-bytes}
+use Rattle.request.specs.Write.{Written, requestIn, sizeOf}
+use Rattle.graph.proofs.Value.{edge-total, node-total, order-total, rule-total}
+use Rattle.request.proofs.Answered.{bytes-length}
+use Rattle.graph.specs.declared.Graph as Value
+
+pub written-length : {o o′ : List ℕ} {at r : ℕ} {xs : List ℕ} → Written o o′ at r xs → length o′ ≡ length o
+written-length {o} {o′} {at} {r} {xs} w =
+    ap length (w .bytes) ∙ simp (length-append, length-take-le at o (omega (arith, w .next, w .room)), length-drop) (omega (arith, w .next, w .room))
+
+pub written-none : (o : List ℕ) (at : ℕ) → at ≤ length o → Written o o at at []
+written-none o at h = record { next = omega arith; room = h; bytes = sym (ap (λ (l : List ℕ). l ++ drop at o) (append-nil (take at o)) ∙ take-append-drop at o) }
+
+pub written-then : {o₀ o₁ o₂ : List ℕ} {a b c : ℕ} {xs ys : List ℕ} → Written o₀ o₁ a b xs → Written o₁ o₂ b c ys → Written o₀ o₂ a c (xs ++ ys)
+written-then {o₀} {o₁} {o₂} {a} {b} {c} {xs} {ys} p q =
+    let ha : length (take a o₀) ≡ a = length-take-le a o₀ (omega (arith, p .next, p .room)) in
+    let hp : length (take a o₀ ++ xs) ≡ b = length-append (take a o₀) xs ∙ omega (arith, p .next) in
+    let t : take b o₁ ≡ take a o₀ ++ xs = ap (take b) (p .bytes) ∙ take-at (take a o₀ ++ xs) (drop b o₀) b hp in
+    let e : c ≡ length (take a o₀ ++ xs) + length ys = omega (arith, q .next) in
+    let d : drop c o₁ ≡ drop c o₀ = ap (drop c) (p .bytes) ∙ ap (λ (n : ℕ). drop n ((take a o₀ ++ xs) ++ drop b o₀)) e ∙ drop-append-add (take a o₀ ++ xs) (drop b o₀) (length ys) ∙ drop-drop (length ys) b o₀ ∙ ap (λ (n : ℕ). drop n o₀) (sym (q .next)) in
+    record {
+      next = omega (arith, p .next, q .next, length-append xs ys);
+      room = omega (arith, q .room, written-length p);
+      bytes = q .bytes ∙ ap (λ (l : List ℕ). (l ++ ys) ++ drop c o₁) t ∙ ap (λ (l : List ℕ). ((take a o₀ ++ xs) ++ ys) ++ l) d ∙ ap (λ (l : List ℕ). l ++ drop c o₀) (append-assoc (take a o₀) xs ys);
+    }
+
+pub written-two : (o : List ℕ) (at x y : ℕ) → at + 2 ≤ length o → Written o (set (set o at x) (at + 1) y) at (at + 2) (x ∷ y ∷ [])
+written-two o at x y h = rw add-one record { next = refl; room = h; bytes = sets-eq (x ∷ y ∷ []) o at h }
+
+pub written-as : {o o′ : List ℕ} {at r : ℕ} {xs ys : List ℕ} → ys ≡ xs → Written o o′ at r xs → Written o o′ at r ys
+written-as e w = rw e w
+
+-- ---- records of one mark
+
+module _ {A : Type 0} (f : A → List ℕ) where
+  pub records-none : (o : List ℕ) (at : ℕ) → at ≤ length o → Written o o at at (flatMap f [])
+  unfolding flatMap
+  records-none o at h = written-none o at h
+
+  flat-snoc : (l : List A) (x : A) → flatMap f (l ++ (x ∷ [])) ≡ flatMap f l ++ f x
+  unfolding flatMap
+  flat-snoc [] x = append-nil (f x)
+  flat-snoc (y ∷ l) x = ap (λ (r : List ℕ). f y ++ r) (flat-snoc l x) ∙ sym (append-assoc (f y) (flatMap f l) (f x))
+
+  pub records-more : {o₀ o₁ o₂ : List ℕ} {a b c : ℕ} (l : List A) (i : ℕ) (d : A) → i < length l → Written o₀ o₁ a b (flatMap f (take i l)) → Written o₁ o₂ b c (f (getD l i d)) → Written o₀ o₂ a c (flatMap f (take (i + 1) l))
+  records-more l i d h p q = rw (add-one, take-suc l i d h, flat-snoc (take i l) (getD l i d)) (written-then p q)
+
+abbrev pub label-bytes : Node → List ℕ
+label-bytes n = node-bytes (n .label)
+
+pub flat-labels : (ns : List Node) → flatMap node-bytes (labels ns) ≡ flatMap label-bytes ns
+unfolding flatMap
+flat-labels [] = refl
+flat-labels (n ∷ ns) = ap (λ (r : List ℕ). node-bytes (n .label) ++ r) (flat-labels ns)
+
+pub request-whole : (g : Value.Graph) {o₀ o₁ o₂ o₃ o₄ o₅ : List ℕ} {b c d e f : ℕ}
+    → Written o₀ o₁ 0 b (flatMap node-bytes (labels (take (g .«node_count») (g .nodes)))) → Written o₁ o₂ b c (flatMap edge-bytes (take (g .«edge_count») (g .edges)))
+    → Written o₂ o₃ c d (flatMap rule-bytes (rulesOf g)) → Written o₃ o₄ d e (flatMap order-bytes (ordersOf g)) → Written o₄ o₅ e f (69 ∷ 78 ∷ []) → Written o₀ o₅ 0 f (bytes (requestIn g))
+unfolding bytes
+request-whole g p q r s t = written-then p (written-then q (written-then r (written-then s t)))
+
+-- ---- how many bytes that is
+
+pub bytes-size : (g : Value.Graph) → Sized g → Roomy g → length (bytes (requestIn g)) ≡ sizeOf g
+bytes-size g sized roomy = bytes-length (requestIn g) ∙ omega (
+  arith,
+  node-total g sized roomy,
+  edge-total g sized roomy,
+  rule-total g sized roomy,
+  order-total g sized roomy,
+)

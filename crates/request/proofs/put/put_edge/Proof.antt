@@ -1,0 +1,53 @@
+use mathlib.Core.Path.{ap}
+use native.Mathlib.Omega.{arith}
+use Rattle.request.specs.File.{node-bytes, side-bytes}
+use Rattle.request.proofs.Writing.{written-then, written-as}
+use borrow.Author.Needs.{needs}
+use Rattle.request.proofs.put.put_edge.Statement.{statement}
+use Rattle.request.proofs.put.put_edge.Tie as tie
+use Rattle.request.proofs.put.put_edge.Reads as reads
+use Rattle.request.proofs.put.put_edge.Lts as lts
+use Rattle.request.proofs.put.put_two.Reads as put-two-reads
+use Rattle.request.proofs.put.put_word.Reads as put-word-reads
+
+-- src/put.rt:51:9
+put-two-requires : tie.Need-put-two-requires
+put-two-requires c κs = search needs
+
+-- src/put.rt:52:9
+put-word-requires : tie.Need-put-word-requires
+put-word-requires c κs = search needs
+
+-- src/put.rt:53:9
+put-word-requires-2 : tie.Need-put-word-requires-2
+put-word-requires-2 c κs = search needs
+
+-- src/put.rt:54:5
+put-word-requires-3 : tie.Need-put-word-requires-3
+put-word-requires-3 c κs = search needs
+
+-- src/put.rt:46:1
+same-length : tie.Need-same-length
+same-length c = search needs
+
+-- src/put.rt:46:1
+returns : tie.Need-returns
+returns c =
+    let d = c .before .before in
+    let b = d .before .before .before .before in
+    let a = b .before .before .before .before in
+    let m = a .before .before .before .before in (
+      omega (arith, d .put-word3 .ensures .0, b .put-word2 .ensures .0, a .put-word .ensures .0, m .put-two .ensures .0),
+      written-then (m .put-two .ensures .1) (written-then (a .put-word .ensures .1) (written-then (b .put-word2 .ensures .1) (d .put-word3 .ensures .1))),
+    )
+
+pub put-edge-spec : {M : Type 1} → statement M
+put-edge-spec =
+    tie.close
+    (tie.spec
+    put-two-requires
+    put-word-requires
+    put-word-requires-2
+    put-word-requires-3
+    same-length
+    returns)

@@ -1,0 +1,41 @@
+use mathlib.Core.Path.{ap}
+use native.Mathlib.Omega.{arith}
+use Rattle.request.specs.File.{node-bytes, side-bytes}
+use Rattle.request.proofs.Writing.{written-then, written-as}
+use borrow.Author.Needs.{needs}
+use Rattle.request.proofs.put.put_order.Statement.{statement}
+use Rattle.request.proofs.put.put_order.Tie as tie
+use Rattle.request.proofs.put.put_order.Reads as reads
+use Rattle.request.proofs.put.put_order.Lts as lts
+use Rattle.request.proofs.put.put_two.Reads as put-two-reads
+use Rattle.request.proofs.put.put_word.Reads as put-word-reads
+
+-- src/put.rt:89:9
+put-two-requires : tie.Need-put-two-requires
+put-two-requires c κs = search needs
+
+-- src/put.rt:90:9
+put-word-requires : tie.Need-put-word-requires
+put-word-requires c κs = search needs
+
+-- src/put.rt:91:5
+put-word-requires-2 : tie.Need-put-word-requires-2
+put-word-requires-2 c κs = search needs
+
+-- src/put.rt:84:1
+same-length : tie.Need-same-length
+same-length c = search needs
+
+-- src/put.rt:84:1
+returns : tie.Need-returns
+returns c =
+    let b = c .before .before in
+    let a = b .before .before .before .before in
+    let m = a .before .before .before .before in (
+      omega (arith, b .put-word2 .ensures .0, a .put-word .ensures .0, m .put-two .ensures .0),
+      written-then (m .put-two .ensures .1) (written-then (a .put-word .ensures .1) (b .put-word2 .ensures .1)),
+    )
+
+pub put-order-spec : {M : Type 1} → statement M
+put-order-spec =
+    tie.close (tie.spec put-two-requires put-word-requires put-word-requires-2 same-length returns)

@@ -1,0 +1,41 @@
+use mathlib.Core.Path.{ap}
+use native.Mathlib.Omega.{arith}
+use Rattle.request.specs.File.{node-bytes, side-bytes}
+use Rattle.request.proofs.Writing.{written-then, written-as}
+use borrow.Author.Needs.{needs}
+use Rattle.request.proofs.put.put_rule.Statement.{statement}
+use Rattle.request.proofs.put.put_rule.Tie as tie
+use Rattle.request.proofs.put.put_rule.Reads as reads
+use Rattle.request.proofs.put.put_rule.Lts as lts
+use Rattle.request.proofs.put.put_side.Reads as put-side-reads
+use Rattle.request.proofs.put.put_two.Reads as put-two-reads
+
+-- src/put.rt:79:9
+put-two-requires : tie.Need-put-two-requires
+put-two-requires c κs = search needs
+
+-- src/put.rt:80:9
+put-side-requires : tie.Need-put-side-requires
+put-side-requires c κs = search needs
+
+-- src/put.rt:81:5
+put-side-requires-2 : tie.Need-put-side-requires-2
+put-side-requires-2 c κs = search needs
+
+-- src/put.rt:72:1
+same-length : tie.Need-same-length
+same-length c = search needs
+
+-- src/put.rt:72:1
+returns : tie.Need-returns
+returns c =
+    let b = c .before .before in
+    let a = b .before .before .before .before in
+    let m = a .before .before .before .before in (
+      omega (arith, b .put-side2 .ensures .0, a .put-side .ensures .0, m .put-two .ensures .0),
+      written-then (m .put-two .ensures .1) (written-then (a .put-side .ensures .1) (b .put-side2 .ensures .1)),
+    )
+
+pub put-rule-spec : {M : Type 1} → statement M
+put-rule-spec =
+    tie.close (tie.spec put-two-requires put-side-requires put-side-requires-2 same-length returns)

@@ -1,0 +1,37 @@
+use mathlib.Core.Path.{refl}
+use native.Mathlib.Omega.{arith}
+use lib.ListN.{length-set}
+use Rattle.request.proofs.Writing.{written-two}
+use borrow.Author.Needs.{needs}
+use Rattle.request.proofs.put.put_two.Statement.{statement}
+use Rattle.request.proofs.put.put_two.Tie as tie
+use Rattle.request.proofs.put.put_two.Reads as reads
+use Rattle.request.proofs.put.put_two.Lts as lts
+
+-- src/put.rt:19:5
+slice-write-out : tie.Need-slice-write-out
+slice-write-out c = search needs
+
+-- src/put.rt:20:9
+add-out : tie.Need-add-out
+add-out c = search needs
+
+-- src/put.rt:20:5
+slice-write-out-2 : tie.Need-slice-write-out-2
+slice-write-out-2 c = simp length-set (omega arith)
+
+-- src/put.rt:21:5
+add-result : tie.Need-add-result
+add-result c = search needs
+
+-- src/put.rt:14:1
+same-length : tie.Need-same-length
+same-length c = search needs
+
+-- src/put.rt:14:1
+returns : tie.Need-returns
+returns c = (refl, written-two _ _ _ _ (search needs))
+
+pub put-two-spec : {M : Type 1} → statement M
+put-two-spec =
+    tie.close (tie.spec slice-write-out add-out slice-write-out-2 add-result same-length returns)

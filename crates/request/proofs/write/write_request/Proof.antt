@@ -1,0 +1,60 @@
+use native.Mathlib.Omega.{arith}
+use Rattle.request.proofs.Writing.{request-whole}
+use borrow.Author.Needs.{needs}
+use Rattle.request.proofs.write.write_request.Statement.{statement}
+use Rattle.request.proofs.write.write_request.Tie as tie
+use Rattle.request.proofs.write.write_request.Reads as reads
+use Rattle.request.proofs.write.write_request.Lts as lts
+use Rattle.request.proofs.put.put_two.Reads as put-two-reads
+use Rattle.request.proofs.write.put_edges.Reads as put-edges-reads
+use Rattle.request.proofs.write.put_nodes.Reads as put-nodes-reads
+use Rattle.request.proofs.write.put_orders.Reads as put-orders-reads
+use Rattle.request.proofs.write.put_rules.Reads as put-rules-reads
+
+-- src/write.rt:89:9
+put-nodes-requires : tie.Need-put-nodes-requires
+put-nodes-requires c κs = search needs
+
+-- src/write.rt:90:9
+put-edges-requires : tie.Need-put-edges-requires
+put-edges-requires c κs = search needs
+
+-- src/write.rt:91:9
+put-rules-requires : tie.Need-put-rules-requires
+put-rules-requires c κs = search needs
+
+-- src/write.rt:92:9
+put-orders-requires : tie.Need-put-orders-requires
+put-orders-requires c κs = search needs
+
+-- src/write.rt:93:5
+put-two-requires : tie.Need-put-two-requires
+put-two-requires c κs = search needs
+
+-- src/write.rt:80:1
+same-length : tie.Need-same-length
+same-length c = search needs
+
+-- src/write.rt:80:1
+returns : tie.Need-returns
+returns c =
+    let t = c .before .before in
+    let d = t .before .before .before .before in
+    let r = d .before .before .before .before in
+    let e = r .before .before .before .before in
+    let n = e .before .before .before .before in (
+      omega (arith, t .put-two .ensures .0, d .put-orders .ensures .0, r .put-rules .ensures .0, e .put-edges .ensures .0, n .put-nodes .ensures .0),
+      request-whole (n .before .before .before .before .before .before .before .args .g) (n .put-nodes .ensures .1) (e .put-edges .ensures .1) (r .put-rules .ensures .1) (d .put-orders .ensures .1) (t .put-two .ensures .1),
+    )
+
+pub write-request-spec : {M : Type 1} → statement M
+write-request-spec =
+    tie.close
+    (tie.spec
+    put-nodes-requires
+    put-edges-requires
+    put-rules-requires
+    put-orders-requires
+    put-two-requires
+    same-length
+    returns)

@@ -1,0 +1,13 @@
+-- What a reader must believe: the request and its bytes, its records, what is wrong with them, what is proper, and what reading gives.
+pub mod Answers
+pub mod File
+pub mod Raw
+pub mod Bad
+pub mod Proper
+pub mod Outcome
+-- The code's side: the same by offsets and tests that compute.
+pub mod Pick
+pub mod Layout
+pub mod Tables
+pub mod Decode
+pub mod Write

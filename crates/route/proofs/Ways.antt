@@ -1,0 +1,45 @@
+-- An element after a store, how many nodes are not reached, and ways one edge longer.
+-- Assumes nothing.
+use mathlib.Core.Bool.{false}
+use mathlib.Core.List.{List, [], _∷_, _++_}
+use mathlib.Core.Logic.{_⊎_, inl, inr, _≢_}
+use mathlib.Core.Path.{_≡_, refl, sym, ap, _∙_, subst, subst⁻¹}
+use Prim.Native.Nat.{ℕ, zero, suc, _+_, _<_}
+use native.Mathlib.Decide.{ℕ-discrete}
+use native.Mathlib.Omega.{arith}
+use lib.Dec.{eqb}
+use lib.ListN.{length, getD, set}
+use lib.Seq.{getD-set-same, getD-set-other}
+use borrow.Author.Tests.{ne-eqb}
+use Rattle.route.specs.Layer.{miss, unseen, Shut}
+use Rattle.route.specs.Way.{Way, Remains}
+
+-- an element after a store
+pub set-val : (l : List ℕ) (e x k : ℕ) → e < length l → ((k ≡ e) × (getD (set l e x) k 0 ≡ x)) ⊎ ((k ≢ e) × (getD (set l e x) k 0 ≡ getD l k 0))
+set-val l e x k h = go (ℕ-discrete k e)
+  where
+    go : Dec (k ≡ e) → ((k ≡ e) × (getD (set l e x) k 0 ≡ x)) ⊎ ((k ≢ e) × (getD (set l e x) k 0 ≡ getD l k 0))
+    go (yes p) = inl (p, ap (λ (j : ℕ). getD (set l e x) j 0) p ∙ getD-set-same l e x 0 h)
+    go (no p) = inr (p, getD-set-other l e k x 0 p)
+
+pub at-same : (l : List ℕ) {x y : ℕ} → x ≡ y → getD l x 0 ≡ getD l y 0
+at-same l p = ap (λ (j : ℕ). getD l j 0) p
+
+miss-no : (y : ℕ) → y < 255 → miss y ≡ 0
+miss-no y h = let e : eqb y 255 ≡ false = ne-eqb y 255 (λ z. omega arith) in rw (e, miss) refl
+
+pub unseen-set : (l : List ℕ) (v y : ℕ) → v < length l → getD l v 0 ≡ 255 → y < 255 → unseen (set l v y) + 1 ≡ unseen l
+unseen-set [] v y h f q = absurd (omega arith)
+unseen-set (x ∷ l) zero y h f q = let m : miss x ≡ 1 = ap miss f in omega (arith, m, miss-no y q)
+unseen-set (x ∷ l) (suc v) y h f q = omega (arith, unseen-set l v y (omega arith) f q)
+
+module _ (from to : List ℕ) where
+  -- one edge more at the end
+  pub way-on : (Ok : ℕ → Type 0) (a : ℕ) (es : List ℕ) (b e : ℕ) → Way from to Ok a es b → e < length from → getD from e 0 ≡ b → Ok e → Way from to Ok a (es ++ (e ∷ [])) (getD to e 0)
+  way-on Ok a [] b e w l f o = (l, f ∙ sym w, o, refl)
+  way-on Ok a (x ∷ es) b e w l f o = (w .0, w .1, w .2, way-on Ok (getD to x 0) es b e (w .3) l f o)
+
+  -- where nothing leads on to what is reached, a way to it starts at what is reached
+  pub way-back : (left dist : List ℕ) → Shut from to left dist → (a : ℕ) (es : List ℕ) (b : ℕ) → Way from to (Remains left) a es b → getD dist b 0 < 255 → getD dist a 0 < 255
+  way-back left dist s a [] b w h = subst⁻¹ (λ (x : ℕ). getD dist x 0 < 255) w h
+  way-back left dist s a (e ∷ es) b w h = subst (λ (x : ℕ). getD dist x 0 < 255) (w .1) (s e (w .0) (w .2) (way-back left dist s (getD to e 0) es b (w .3) h))

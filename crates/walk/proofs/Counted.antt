@@ -1,0 +1,32 @@
+-- The first of an array, as many as a count says: what holds of the list that they are holds in the array.
+-- Assumes nothing.
+use mathlib.Core.List.{List, [], _∷_}
+use mathlib.Core.Path.{_≡_, refl}
+use Prim.Native.Nat.{ℕ, zero, suc, _≤_, _<_, zero-le, suc-le-suc}
+use native.Mathlib.Nat.{le-of-suc-le-suc, not-suc-le-zero}
+use native.Mathlib.Omega.{arith}
+use lib.ListN.{length, take, getD, length-take}
+use Rattle.graph.specs.declared.Node.{Node}
+use Rattle.graph.specs.Value.{labels}
+
+module _ {A : Type 0} where
+  -- what stands at a place within a list does not go by the default
+  pub getD-any : (l : List A) (i : ℕ) (d e : A) → i < length l → getD l i d ≡ getD l i e
+  getD-any [] i d e h = absurd (not-suc-le-zero h)
+  getD-any (x ∷ xs) zero d e h = refl
+  getD-any (x ∷ xs) (suc i) d e h = getD-any xs i d e (le-of-suc-le-suc h)
+
+  pub counted-below : (n : ℕ) (l : List A) (i : ℕ) → i < length (take n l) → i < n
+  counted-below n l i h = omega (arith, length-take n l)
+
+  -- past the array's end the default is read
+  pub counted-each : (P : A → Type 0) (d : A) → P d → (n : ℕ) (l : List A) → ((i : ℕ) → i < length (take n l) → P (getD (take n l) i d)) → (i : ℕ) → i < n → P (getD l i d)
+  counted-each P d p zero l f i h = absurd (not-suc-le-zero h)
+  counted-each P d p (suc n) [] f i h = p
+  counted-each P d p (suc n) (x ∷ l) f zero h = f zero (suc-le-suc zero-le)
+  counted-each P d p (suc n) (x ∷ l) f (suc i) h = counted-each P d p n l (λ j k. f (suc j) (suc-le-suc k)) i (le-of-suc-le-suc h)
+
+pub labels-length : (ns : List Node) (n : ℕ) → length (labels (take n ns)) ≤ n
+labels-length ns zero = zero-le
+labels-length [] (suc n) = zero-le
+labels-length (x ∷ ns) (suc n) = suc-le-suc (labels-length ns n)

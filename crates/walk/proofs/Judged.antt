@@ -1,0 +1,83 @@
+-- Flags that tell of each order whether a route is shown, and so whether it is open.
+-- Assumes nothing.
+use mathlib.Core.Bool.{Bool, true, false}
+use mathlib.Core.List.{List, []}
+use mathlib.Core.Path.{_≡_, sym, ap, subst⁻¹, _∙_}
+use Prim.Native.Nat.{ℕ, _+_, _≤_, _<_}
+use native.Mathlib.Decide.{ℕ-discrete}
+use native.Mathlib.Omega.{arith}
+use lib.Dec.{ltb, lit<}
+use lib.ListN.{length, take, getD, set}
+use lib.Seq.{getD-take, getD-set-same, getD-set-other, length-take-le}
+use borrow.Author.Tests.{lt-ltb, le-ltb}
+use Rattle.flags.proofs.Digit.{true-false}
+use Rattle.graph.specs.declared.Graph.{Graph}
+use Rattle.graph.specs.declared.Order.{Order}
+use Rattle.graph.specs.declared.Rule.{Rule}
+use Rattle.graph.specs.Ask.{AskedWithout, is-held, is-open}
+use Rattle.graph.specs.Graph.{Orderly, no-order, order}
+use Rattle.graph.specs.Graph as Drawn
+use Rattle.graph.specs.Held.{Held, HeldWithout, Open}
+use Rattle.graph.specs.Limits.{most-nodes}
+use Rattle.graph.specs.Value.{graphOf, rulesOf, ordersOf, Sized, Told}
+use Rattle.walk.specs.declared.Way.{Way}
+use Rattle.walk.specs.declared.Words.{Words}
+use Rattle.walk.specs.Words.{AskedOf, WordsOf}
+use Rattle.walk.proofs.Counted.{counted-below, counted-each, labels-length}
+
+-- ---- what `open_orders` keeps: the flags below i are right
+
+abbrev pub Judged : Words → List Order → List Bool → ℕ → Type 0
+Judged words orders flags j = (route : List ℕ) × AskedOf words (order orders j .first) (order orders j .second) route × (getD flags j false ≡ ltb 0 (length route))
+
+pub judged-more : (words : Words) (orders : List Order) (flags : List Bool) (i : ℕ) (way : Way)
+    → ((j : ℕ) → j < i → Judged words orders flags j)
+    → i < length flags
+    → way .len ≤ length (way .nodes)
+    → AskedOf words (order orders i .first) (order orders i .second) (take (way .len) (way .nodes))
+    → (j : ℕ) → j < i + 1 → Judged words orders (set flags i (ltb 0 (way .len))) j
+judged-more words orders flags i way judged h fits shown j k = go (ℕ-discrete j i)
+  where
+    b : Bool
+    b = ltb 0 (way .len)
+
+    go : Dec (j ≡ i) → Judged words orders (set flags i b) j
+    go (yes e) = subst⁻¹ (Judged words orders (set flags i b)) e
+        (take (way .len) (way .nodes), shown, getD-set-same flags i b false h ∙ ap (ltb 0) (sym (length-take-le (way .len) (way .nodes) fits)))
+    go (no n) = let r = judged j (omega arith) in (r .0, r .1, getD-set-other flags i j b false n ∙ r .2)
+
+-- ---- a route is shown exactly of an open order
+
+shown-open : {g : Drawn.Graph} {rules : List Rule} {c : List ℕ} {a b : ℕ} (route : List ℕ) → AskedWithout g rules c a b route → ltb 0 (length route) ≡ true → ¬ HeldWithout g rules c a b
+shown-open route (is-held h) e = absurd (true-false (sym e ∙ le-ltb 0 0 (omega arith)))
+shown-open route (is-open {between = l} s) e = λ h. s .unordered (h l (s .route))
+
+unshown-held : {g : Drawn.Graph} {rules : List Rule} {c : List ℕ} {a b : ℕ} (route : List ℕ) → AskedWithout g rules c a b route → ltb 0 (length route) ≡ false → HeldWithout g rules c a b
+unshown-held route (is-held h) e = h
+unshown-held {b = b} route (is-open {between = l} s) e = absurd (true-false (sym (lt-ltb 0 (length route) (omega arith)) ∙ e))
+
+module _ (g : Graph) (sized : Sized g) where
+  order-at : (i : ℕ) → i < g .«order_count» → order (ordersOf g) i ≡ order (g .orders) i
+  order-at i h = getD-take (g .«order_count») (g .orders) i no-order h
+
+  -- what the walk asks of an order's nodes
+  pub order-ends : Orderly (length ((graphOf g) .nodes)) (ordersOf g) → (i : ℕ) → i < g .«order_count»
+      → (order (g .orders) i .first < most-nodes) × (order (g .orders) i .second < most-nodes)
+  order-ends orderly = counted-each (λ o. (o .first < most-nodes) × (o .second < most-nodes)) no-order (lit< tt, lit< tt) (g .«order_count») (g .orders)
+      (λ i h. let s = orderly .ends i h in let n = labels-length (g .nodes) (g .«node_count») in (omega (arith, s .0, sized .nodes), omega (arith, s .1, sized .nodes)))
+
+  pub judged-told : (words : Words) (flags : List Bool) → WordsOf (graphOf g) (rulesOf g) [] words → ((j : ℕ) → j < g .«order_count» → Judged words (g .orders) flags j) → Told g flags
+  judged-told words flags of judged = record { is-open = open′; is-held = held′ }
+    where
+      below : (i : ℕ) → i < length (ordersOf g) → i < g .«order_count»
+      below i h = counted-below (g .«order_count») (g .orders) i h
+
+      open′ : (i : ℕ) → i < length (ordersOf g) → getD flags i false ≡ true → Open (graphOf g) (rulesOf g) (order (ordersOf g) i)
+      open′ i h e =
+          let r = judged i (below i h) in
+          subst⁻¹ (Open (graphOf g) (rulesOf g)) (order-at i (below i h)) (shown-open (r .0) (r .1 (graphOf g) (rulesOf g) [] of) (sym (r .2) ∙ e))
+
+      held′ : (i : ℕ) → i < length (ordersOf g) → getD flags i false ≡ false → Held (graphOf g) (rulesOf g) (order (ordersOf g) i)
+      held′ i h e =
+          let r = judged i (below i h) in
+          subst⁻¹ (Held (graphOf g) (rulesOf g)) (order-at i (below i h)) (unshown-held (r .0) (r .1 (graphOf g) (rulesOf g) [] of) (sym (r .2) ∙ e))

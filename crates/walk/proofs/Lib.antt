@@ -1,0 +1,18 @@
+-- The mathematics of the walk: the words of a graph; the search, step by step; the search and the routes of a graph.
+
+pub mod Counted
+pub mod Fill
+pub mod Made
+pub mod Rest
+pub mod Left
+pub mod Visited
+pub mod Tried
+pub mod Fallen
+pub mod Hope
+pub mod Reached
+pub mod Carried
+pub mod Soundness
+pub mod Completeness
+pub mod First
+pub mod Judged
+pub mod Unique

@@ -1,0 +1,87 @@
+-- The words that are filled from a graph by value are the words of the graph that it holds.
+-- Assumes nothing.
+use mathlib.Core.Bool.{Bool, true, _&&_}
+use mathlib.Core.List.{List, [], _∷_}
+use mathlib.Core.Logic.{_↔_}
+use mathlib.Core.Path.{_≡_, refl, sym, ap, ap₂, _∙_}
+use Prim.Native.Nat.{ℕ, zero, suc, _≤_, _<_}
+use native.Mathlib.Nat.{le-of-suc-le-suc, not-suc-le-zero}
+use native.Mathlib.Omega.{arith}
+use lib.Dec.{lit<}
+use lib.ListN.{length, take, getD, length-take}
+use lib.Seq.{getD-take}
+use borrow.Author.Tests.{lt-ltb}
+use denote.Floats.{is-true, passes}
+use Rattle.graph.specs.declared.Edge.{Edge}
+use Rattle.graph.specs.declared.Graph.{Graph}
+use Rattle.graph.specs.declared.Label.the-variants.{Fence}
+use Rattle.graph.specs.declared.Node.{Node}
+use Rattle.graph.specs.Fit.{Ruled, ruledb}
+use Rattle.graph.specs.Graph.{Sound, label, no-edge}
+use Rattle.graph.specs.Held.{Step}
+use Rattle.graph.specs.Limits.{most-nodes}
+use Rattle.graph.specs.Value.{labels, graphOf, rulesOf, Sized}
+use Rattle.graph.proofs.Ruled.{says-ruled}
+use Rattle.walk.specs.declared.Words.{Words}
+use Rattle.walk.specs.Words.{WordsOf, listed, Ends, Led, labelAt, fitIn}
+use Rattle.walk.proofs.Counted.{counted-below, counted-each, labels-length}
+
+label-take : (ns : List Node) (n p : ℕ) → p < length (labels (take n ns)) → getD (labels (take n ns)) p Fence ≡ labelAt ns p
+label-take ns zero p h = absurd (not-suc-le-zero h)
+label-take [] (suc n) p h = absurd (not-suc-le-zero h)
+label-take (x ∷ ns) (suc n) zero h = refl
+label-take (x ∷ ns) (suc n) (suc p) h = label-take ns n p (le-of-suc-le-suc h)
+
+module _ (g : Graph) (sized : Sized g) (sound : Sound (graphOf g)) where
+  node-count : length ((graphOf g) .nodes) ≤ g .«node_count»
+  node-count = labels-length (g .nodes) (g .«node_count»)
+
+  -- what `succ_words` asks for
+  pub all-ends : Ends (g .edges) (g .«edge_count»)
+  all-ends = counted-each (λ e. (e .from < most-nodes) × (e .to < most-nodes)) no-edge (lit< tt, lit< tt) (g .«edge_count») (g .edges)
+      (λ i h. let s = sound .ends i h in (omega (arith, s .0, node-count, sized .nodes), omega (arith, s .1, node-count, sized .nodes)))
+
+  edge-at : (i : ℕ) → i < g .«edge_count» → getD ((graphOf g) .edges) i no-edge ≡ getD (g .edges) i no-edge
+  edge-at i h = getD-take (g .«edge_count») (g .edges) i no-edge h
+
+  led-step : (p q : ℕ) → Led (g .edges) (g .«edge_count») p q → Step (graphOf g) [] p q
+  led-step p q (j, h, k, f, t) = (
+    j,
+    omega (arith, length-take (g .«edge_count») (g .edges)),
+    tt,
+    ap (λ (x : Edge). x .from) (edge-at j h) ∙ f,
+    ap (λ (x : Edge). x .to) (edge-at j h) ∙ t,
+  )
+
+  step-led : (p q : ℕ) → Step (graphOf g) [] p q → Led (g .edges) (g .«edge_count») p q
+  step-led p q (j, h, o, f, t) =
+      let k = counted-below (g .«edge_count») (g .edges) j h in (
+        j,
+        k,
+        omega (arith, length-take (g .«edge_count») (g .edges)),
+        sym (ap (λ (x : Edge). x .from) (edge-at j k)) ∙ f,
+        sym (ap (λ (x : Edge). x .to) (edge-at j k)) ∙ t,
+      )
+
+  pub words-made : (words : Words)
+      → ((p q : ℕ) → (listed (words .succ) p q ≡ true) ↔ Led (g .edges) (g .«edge_count») p q)
+      → ((p q : ℕ) → listed (words .fits) p q ≡ fitIn (g .nodes) (g .«node_count») (rulesOf g) p q)
+      → WordsOf (graphOf g) (rulesOf g) [] words
+  words-made words led fit = record {
+    sound = sound;
+    steps = λ p q. (λ e. led-step p q (led p q .0 e), λ s. led p q .1 (step-led p q s));
+    ruled = ruled′;
+  }
+    where
+      ruled′ : (p q : ℕ) → p < length ((graphOf g) .nodes) → q < length ((graphOf g) .nodes)
+          → (listed (words .fits) p q ≡ true) ↔ Ruled (rulesOf g) (label (graphOf g) p) (label (graphOf g) q)
+      ruled′ p q h k =
+          let lp : label (graphOf g) p ≡ labelAt (g .nodes) p = label-take (g .nodes) (g .«node_count») p h in
+          let lq : label (graphOf g) q ≡ labelAt (g .nodes) q = label-take (g .nodes) (g .«node_count») q k in
+          let says = says-ruled (rulesOf g) (label (graphOf g) p) (label (graphOf g) q) in
+          let test : listed (words .fits) p q ≡ ruledb (rulesOf g) (label (graphOf g) p) (label (graphOf g) q) =
+          fit p q
+          ∙ ap₂ (λ (x y : Bool). x && (y && ruledb (rulesOf g) (labelAt (g .nodes) p) (labelAt (g .nodes) q)))
+          (lt-ltb p (g .«node_count») (omega (arith, h, node-count))) (lt-ltb q (g .«node_count») (omega (arith, k, node-count)))
+          ∙ ap₂ (ruledb (rulesOf g)) (sym lp) (sym lq) in
+          (λ e. says .so (passes _ (sym test ∙ e)), λ r. test ∙ is-true _ (says .back r))

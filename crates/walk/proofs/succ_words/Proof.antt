@@ -1,0 +1,92 @@
+use mathlib.Core.Path.{_≡_, refl, _∙_}
+use Prim.Native.Nat.{_-_, _≤_, _<_}
+use native.Mathlib.Omega.{arith}
+use lib.ListN.{length, getD, length-set}
+use borrow.Author.Needs.{needs}
+use Rattle.graph.specs.Graph.{no-edge}
+use Rattle.graph.specs.Limits.{most-nodes}
+use Rattle.walk.proofs.Fill.{Filled, filled-none, filled-put}
+use Rattle.walk.proofs.succ_words.Statement.{statement}
+use Rattle.walk.proofs.succ_words.Tie as tie
+use Rattle.walk.proofs.succ_words.Reads as reads
+use Rattle.walk.proofs.succ_words.Lts as lts
+use Rattle.flags.proofs.with.Reads as with-reads
+
+abbrev Inv-loop : tie.InvT-loop
+Inv-loop n edges words₀ i₀ words i = (i ≤ n) × (length words ≡ most-nodes) × Filled edges i words
+
+abbrev μ-loop : tie.MeasureT-loop
+μ-loop n edges words₀ i₀ words i = n - i
+
+loop-holds : tie.Need-loop-holds Inv-loop μ-loop
+loop-holds c = (search needs, refl, filled-none (c .args .t1))
+
+mul-e : tie.Need-mul-e Inv-loop μ-loop
+mul-e c = search needs
+
+array-copy-out-e : tie.Need-array-copy-out-e Inv-loop μ-loop
+array-copy-out-e c = search needs
+
+cast-from : tie.Need-cast-from Inv-loop μ-loop
+cast-from c = search needs
+
+cast-to : tie.Need-cast-to Inv-loop μ-loop
+cast-to c = search needs
+
+mul-with : tie.Need-mul-with Inv-loop μ-loop
+mul-with c = search needs
+
+array-read-with : tie.Need-array-read-with Inv-loop μ-loop
+array-read-with c = c .before .before .before .before .before .pre .1 (c .before .before .before .before .loop .i) (c .before .before .before .loop-test .taken) .0
+
+with-requires : tie.Need-with-requires Inv-loop μ-loop
+with-requires c κs = c .before .before .before .before .before .pre .1 (c .before .before .before .before .loop .i) (c .before .before .before .loop-test .taken) .1
+
+mul-words : tie.Need-mul-words Inv-loop μ-loop
+mul-words c = search needs
+
+array-write-words : tie.Need-array-write-words Inv-loop μ-loop
+array-write-words c = c .before .before .before .before .before .before .pre .1 (c .before .before .before .before .before .loop .i) (c .before .before .before .before .loop-test .taken) .0
+
+add-i : tie.Need-add-i Inv-loop μ-loop
+add-i c = search needs
+
+loop-less : tie.Need-loop-less Inv-loop μ-loop
+loop-less c = search needs
+
+loop-again : tie.Need-loop-again Inv-loop μ-loop
+loop-again c =
+    let s = c .before .before .before .before .before .before in
+    let l = c .before .before .before .before .before .loop in
+    let e = getD (s .args .t1) (l .i) no-edge in
+    let room : e .from < length (l .words) = rw (l .inv .1) (s .pre .1 (l .i) (c .before .before .before .before .loop-test .taken) .0) in (
+      search needs,
+      length-set (l .words) (e .from) (c .with .result) ∙ l .inv .1,
+      rw (c .with .ensures) (filled-put (s .args .t1) (l .i) (l .words) (e .from) (e .to) (l .inv .2) refl refl room (search needs)),
+    )
+
+returns : tie.Need-returns Inv-loop μ-loop
+returns c =
+    let e : c .before .loop .i ≡ c .before .before .args .n = omega arith in
+    λ p q. rw e at (c .before .loop .inv .2 p q)
+
+pub succ-words-spec : {M : Type 1} → statement M
+succ-words-spec =
+    tie.close
+    (tie.spec
+    Inv-loop
+    μ-loop
+    loop-holds
+    mul-e
+    array-copy-out-e
+    cast-from
+    cast-to
+    mul-with
+    array-read-with
+    with-requires
+    mul-words
+    array-write-words
+    add-i
+    loop-less
+    loop-again
+    returns)

@@ -1,0 +1,24 @@
+use borrow.Author.Needs.{needs}
+use Rattle.walk.proofs.Made.{all-ends, words-made}
+use Rattle.walk.proofs.words_of.Statement.{statement}
+use Rattle.walk.proofs.words_of.Tie as tie
+use Rattle.walk.proofs.words_of.Reads as reads
+use Rattle.walk.proofs.words_of.Lts as lts
+use Rattle.walk.proofs.fits_words.Reads as fits-words-reads
+use Rattle.walk.proofs.succ_words.Reads as succ-words-reads
+
+succ-words-requires : tie.Need-succ-words-requires
+succ-words-requires c κs =
+    let s = c .before .before .before in
+    (search needs, all-ends (s .args .g) (s .pre .0) (s .pre .1))
+
+fits-words-requires : tie.Need-fits-words-requires
+fits-words-requires c κs = search needs
+
+returns : tie.Need-returns
+returns c =
+    let s = c .before .before .before .before .before in
+    words-made (s .args .g) (s .pre .0) (s .pre .1) _ (c .before .succ-words .ensures) (c .fits-words .ensures)
+
+pub words-of-spec : {M : Type 1} → statement M
+words-of-spec = tie.close (tie.spec succ-words-requires fits-words-requires returns)

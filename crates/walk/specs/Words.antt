@@ -1,0 +1,52 @@
+-- Which words are a graph's: for each node the nodes that a step leads to, and those that some rule fits with it.
+-- Assumes nothing.
+use mathlib.Core.Bool.{Bool, true, _&&_}
+use mathlib.Core.List.{List}
+use mathlib.Core.Logic.{_↔_}
+use mathlib.Core.Path.{_≡_}
+use Prim.Native.Nat.{ℕ, _<_}
+use lib.Dec.{ltb}
+use lib.ListN.{length, getD}
+use Rattle.flags.specs.Flag.{flag}
+use Rattle.graph.specs.declared.Edge.{Edge}
+use Rattle.graph.specs.declared.Label.{Label}
+use Rattle.graph.specs.declared.Label.the-variants.{Fence}
+use Rattle.graph.specs.declared.Node.{Node}
+use Rattle.graph.specs.declared.Rule.{Rule}
+use Rattle.graph.specs.Ask.{AskedWithout}
+use Rattle.graph.specs.Fit.{Ruled, ruledb}
+use Rattle.graph.specs.Graph.{Graph, Sound, label, no-edge}
+use Rattle.graph.specs.Held.{Step}
+use Rattle.graph.specs.Limits.{most-nodes}
+use Rattle.walk.specs.declared.Words.{Words}
+
+-- q is in the word of p
+abbrev pub listed : List ℕ → ℕ → ℕ → Bool
+listed words p q = flag (getD words p 0) q
+
+-- the words of g without the edges in c, and of the rules
+pub record WordsOf (g : Graph) (rules : List Rule) (c : List ℕ) (words : Words) : Type 0 where
+  pub sound : Sound g
+  pub steps : (p q : ℕ) → (listed (words .succ) p q ≡ true) ↔ Step g c p q
+  pub ruled : (p q : ℕ) → p < length (g .nodes) → q < length (g .nodes) → (listed (words .fits) p q ≡ true) ↔ Ruled rules (label g p) (label g q)
+
+-- what is shown of the order (a, b), whatever graph these words are of
+abbrev pub AskedOf : Words → ℕ → ℕ → List ℕ → Type 0
+AskedOf words a b route = (g : Graph) (rules : List Rule) (c : List ℕ) → WordsOf g rules c words → AskedWithout g rules c a b route
+
+-- ---- what they are filled from
+
+-- the ends of the first n edges are numbers of nodes
+abbrev pub Ends : List Edge → ℕ → Type 0
+Ends edges n = (i : ℕ) → i < n → (getD edges i no-edge .from < most-nodes) × (getD edges i no-edge .to < most-nodes)
+
+-- one of the first i edges leads from p to q
+abbrev pub Led : List Edge → ℕ → ℕ → ℕ → Type 0
+Led edges i p q = (j : ℕ) × (j < i) × (j < length edges) × (getD edges j no-edge .from ≡ p) × (getD edges j no-edge .to ≡ q)
+
+abbrev pub labelAt : List Node → ℕ → Label
+labelAt ns p = getD ns p (record { label = Fence }) .label
+
+-- p and q are among the first n nodes, and some rule fits their labels
+abbrev pub fitIn : List Node → ℕ → List Rule → ℕ → ℕ → Bool
+fitIn ns n rs p q = ltb p n && (ltb q n && ruledb rs (labelAt ns p) (labelAt ns q))
