@@ -31,7 +31,7 @@ fn is_fence(l: Label) -> bool
 }
 
 // The first of n edges, from lo on, that ends at v.
-fn next_end(edges: [Edge; Graph::EDGES], n: usize, v: usize, lo: usize) -> usize
+pub fn next_end(edges: [Edge; Graph::EDGES], n: usize, v: usize, lo: usize) -> usize
     requires { ⌜ (lo ≤ n) × (n ≤ most-edges) ⌝ }
     ensures { λ r. ⌜ Next (λ j. (getD (take n edges) j no-edge) .to ≡ v) lo n r ⌝ }
 {
@@ -47,7 +47,7 @@ fn next_end(edges: [Edge; Graph::EDGES], n: usize, v: usize, lo: usize) -> usize
 }
 
 // The first of n edges that starts at v.
-fn first_start(edges: [Edge; Graph::EDGES], n: usize, v: usize) -> usize
+pub fn first_start(edges: [Edge; Graph::EDGES], n: usize, v: usize) -> usize
     requires { ⌜ n ≤ most-edges ⌝ }
     ensures { λ r. ⌜ Next (λ j. (getD (take n edges) j no-edge) .from ≡ v) 0 n r ⌝ }
 {
