@@ -8,3 +8,5 @@ pub mod Shows
 pub mod Off
 pub mod Freed
 pub mod Unique
+pub mod Again
+pub mod Demands

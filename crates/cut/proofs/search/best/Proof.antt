@@ -138,6 +138,7 @@ loop-again c = let n = c .before .before .before .before in
     let i = turn n .loop .inv in
     let lt = n .loop-test .taken in
     let w = c .before .before .wider .ensures .0 in
+    let x = c .before .before .wider .result in
     let k = turn n .loop .k .weight in
     let rest = lightest b .least .result .cut .weight - k in
     let low : (x : ℕ) → x ≤ rest → k + x ≤ turn n .loop .c .weight = λ x q. omega (arith, q, i .1, light n) in
@@ -145,10 +146,10 @@ loop-again c = let n = c .before .before .before .before in
     ⊎-elim (λ z. rw (z .2, z .3) (omega arith, i .1, kept-take _ _ (few b) _ _ _ (kept n) lt (heavy n) _ w _ (z .1 .ensures .0) (z .1 .ensures .1) (omega (arith, w, kept-room _ _ (few b) _ _ _ (kept n) lt (heavy n) (z .0 .taken))) (z .0 .taken)))
     (⊎-elim (λ z. rw (z .10, z .11) (
       omega arith,
-      found-weight _ _ (few b) _ _ _ (kept n) lt (heavy n) _ w _ (z .6 .ensures .0) (z .6 .ensures .1) (low _ (z .2 .taken)) _ (even _ (z .2 .taken)) _ (z .7 .ensures) (z .8 .taken) ∙ i .1,
-      kept-found _ _ (few b) _ _ _ (kept n) lt (heavy n) _ w _ (z .6 .ensures .0) (z .6 .ensures .1) (low _ (z .2 .taken)) _ (even _ (z .2 .taken)) _ (z .7 .ensures) (z .8 .taken),
+      found-weight _ _ (few b) _ _ _ (kept n) lt (heavy n) x w _ (z .6 .ensures .0) (z .6 .ensures .1) (low x (omega (arith, z .2 .taken))) (rest - x) (even x (omega (arith, z .2 .taken))) _ (z .7 .ensures) (z .8 .taken) ∙ i .1,
+      kept-found _ _ (few b) _ _ _ (kept n) lt (heavy n) x w _ (z .6 .ensures .0) (z .6 .ensures .1) (low x (omega (arith, z .2 .taken))) (rest - x) (even x (omega (arith, z .2 .taken))) _ (z .7 .ensures) (z .8 .taken),
     ))
-    (⊎-elim (λ z. rw (z .9, z .10) (omega arith, i .1, kept-skip _ _ (few b) _ _ _ (kept n) (z .0 .left) (barren-none _ _ (few b) _ _ _ (kept n) lt (heavy n) _ w _ (z .6 .ensures .0) (z .6 .ensures .1) (low _ (z .2 .taken)) _ (even _ (z .2 .taken)) _ (z .7 .ensures) (z .8 .left))))
+    (⊎-elim (λ z. rw (z .9, z .10) (omega arith, i .1, kept-skip _ _ (few b) _ _ _ (kept n) (z .0 .left) (barren-none _ _ (few b) _ _ _ (kept n) lt (heavy n) x w _ (z .6 .ensures .0) (z .6 .ensures .1) (low x (omega (arith, z .2 .taken))) (rest - x) (even x (omega (arith, z .2 .taken))) _ (z .7 .ensures) (z .8 .left))))
     (⊎-elim (λ z. rw (z .6, z .7) (omega arith, i .1, kept-skip _ _ (few b) _ _ _ (kept n) (z .0 .left) (barren-slack _ _ (few b) _ _ _ (kept n) lt (heavy n) _ (b .bound .result .left) _ (none b .empty .ensures .1) (b .bound .ensures .packed) (omega (arith, z .5 .left, z .4 .ensures .0, i .1)))))
     (λ z. rw (z .3, z .4) (omega arith, i .1, kept-skip _ _ (few b) _ _ _ (kept n) (z .0 .left) (barren-heavy _ _ (few b) _ _ _ (kept n) lt (heavy n) (omega (arith, z .2 .left, w, i .1))))))))
     (c .if1 .came)
