@@ -1,35 +1,16 @@
--- The words of two words: the flags of either, of both, of one and not the other; and whether they meet.
+-- The words of two words: the flags of either, of both, and of one and not the other.
 -- Assumes nothing.
 use mathlib.Core.Bool.{Bool, true, false}
 use mathlib.Core.Logic.{_⊎_, inl, inr}
 use mathlib.Core.Path.{_≡_, refl, sym, ap, ap₂, _∙_}
-use Prim.Native.Nat.{ℕ, zero, suc, _+_, _/_, _%_, _^_, _<_, min, max}
-use native.Mathlib.Decide.{ℕ-discrete}
+use Prim.Native.Nat.{ℕ, zero, suc, _/_, _%_, _^_, _<_, min, max}
 use native.Mathlib.Nat.{mod-lt, zero-lt-suc}
 use native.Mathlib.Omega.{arith}
 use lib.Arith.{digits-mod}
 use lib.Bits.{bitOr, bitAnd, bitXor, differ, xor-step, xor-shr}
-use lib.Count.{ones}
-use lib.Dec.{eqb}
-use borrow.Author.Tests.{eqb-true, eqb-false, not-true, not-false}
-use Rattle.flags.specs.Flag.{digit, flag, put, common, either, both, less}
-use Rattle.flags.proofs.Digit.{clear-flag, digit-lt, digit-zero, flag-clear, flag-digit, flag-set, flag-zero, same-digits, set-flag, some-flag, true-false}
-use Rattle.flags.proofs.Put.{digit-and, digit-or, put-count, put-other, put-same}
-
-pub common-true : (a b : ℕ) → common a b ≡ true → (j : ℕ) × (flag a j ≡ true) × (flag b j ≡ true)
-unfolding common
-common-true a b e =
-    let h : (j : ℕ) × (flag (bitAnd a b) j ≡ true) = some-flag (bitAnd a b) (eqb-false (bitAnd a b) 0 (not-true (eqb (bitAnd a b) 0) e)) in
-    let j = h .0 in
-    let d : min (digit a j) (digit b j) ≡ 1 = sym (digit-and a b j) ∙ flag-set (bitAnd a b) j (h .1) in
-    (j, set-flag a j (omega (arith, digit-lt a j)), set-flag b j (omega (arith, digit-lt b j)))
-
-pub common-false : (a b : ℕ) → common a b ≡ false → (j : ℕ) → flag a j ≡ true → flag b j ≡ true → ⊥
-unfolding common
-common-false a b e j p q =
-    let z : bitAnd a b ≡ 0 = eqb-true (bitAnd a b) 0 (not-false (eqb (bitAnd a b) 0) e) in
-    let d : digit 0 j ≡ min (digit a j) (digit b j) = ap (λ (x : ℕ). digit x j) (sym z) ∙ digit-and a b j in
-    omega (arith, d, digit-zero j, flag-set a j p, flag-set b j q)
+use Rattle.flags.specs.Flag.{digit, flag, either, both, less}
+use Rattle.flags.proofs.Digit.{clear-flag, digit-lt, flag-clear, flag-set, set-flag}
+use Rattle.flags.proofs.Put.{digit-and, digit-or}
 
 pub either-l : (a b k : ℕ) → flag a k ≡ true → flag (either a b) k ≡ true
 unfolding either
@@ -91,24 +72,3 @@ less-out a b k q = by (flag a k) refl
     by : (x : Bool) → flag a k ≡ x → flag (less a b) k ≡ false
     by true p = clear-flag (less a b) k (digit-less a b k 1 1 (flag-set a k p) (flag-set b k q))
     by false p = clear-flag (less a b) k (digit-less a b k 0 1 (flag-clear a k p) (flag-set b k q))
-
--- ---- a flag taken out
-
-pub less-other : (w k j : ℕ) → (j ≡ k → ⊥) → flag (less w (put 0 k)) j ≡ flag w j
-less-other w k j n = by (flag w j) refl (flag (less w (put 0 k)) j) refl
-  where
-    by : (x : Bool) → flag w j ≡ x → (y : Bool) → flag (less w (put 0 k)) j ≡ y → flag (less w (put 0 k)) j ≡ flag w j
-    by true p y q = less-in w (put 0 k) j p (put-other 0 k j n ∙ flag-zero j) ∙ sym p
-    by false p true q = absurd (true-false (sym (less-l w (put 0 k) j q) ∙ p))
-    by false p false q = q ∙ sym p
-
-put-less : (w k : ℕ) → flag w k ≡ true → put (less w (put 0 k)) k ≡ w
-put-less w k e = same-digits (put (less w (put 0 k)) k) w (λ j. flag-digit (put (less w (put 0 k)) k) w j (go j (ℕ-discrete j k)))
-  where
-    go : (j : ℕ) → Dec (j ≡ k) → flag (put (less w (put 0 k)) k) j ≡ flag w j
-    go j (yes p) = rw p (put-same (less w (put 0 k)) k ∙ sym e)
-    go j (no n) = put-other (less w (put 0 k)) k j n ∙ less-other w k j n
-
--- taking out a set flag lowers the count by one
-pub less-count : (w k : ℕ) → flag w k ≡ true → ones w ≡ ones (less w (put 0 k)) + 1
-less-count w k e = ap ones (sym (put-less w k e)) ∙ put-count (less w (put 0 k)) k (less-out w (put 0 k) k (put-same 0 k))

@@ -6,7 +6,7 @@ use mathlib.Core.Path.{_≡_, refl, _∙_}
 use Prim.Native.Nat.{ℕ, _<_, _≤_}
 use native.Mathlib.Omega.{arith}
 use Rattle.graph.specs.Cut.{First, Best}
-use Rattle.graph.proofs.Says.{decide, says-lt, says-le}
+use Rattle.graph.proofs.Says.{decide, says-lt}
 
 pub first-refl : (c : List ℕ) → First c c
 first-refl [] = tt
@@ -96,30 +96,3 @@ module _ (weigh : List ℕ → ℕ) where
       go : (c : List ℕ) → P c ⊎ Q c → ⊥
       go c (inl x) = n c x
       go c (inr x) = k c x
-
-  -- with b found, the rest need look only at what weighs no more
-  pub outcome-capped : {P Q : List ℕ → Type 0} {b : List ℕ} → Best P weigh b → Outcome (λ t. Q t × (weigh t ≤ weigh b)) → Outcome (λ t. P t ⊎ Q t)
-  outcome-capped {P} {Q} {b} p rest = outcome-iff to fro (outcome-or (inl (b, widen)) rest)
-    where
-      Dear : List ℕ → Type 0
-      Dear t = P t ⊎ (Q t × (weigh b < weigh t))
-
-      all : (t : List ℕ) → Dear t → Better b t
-      all t (inl x) = (p .least t x, p .first t x)
-      all t (inr x) = let h = x .1 in (omega arith, λ e. absurd (let z : ⊥ = omega arith in z))
-
-      widen : Best Dear weigh b
-      widen = record { among = inl (p .among); least = λ t x. all t x .0; first = λ t x. all t x .1 }
-
-      to : (t : List ℕ) → Dear t ⊎ (Q t × (weigh t ≤ weigh b)) → P t ⊎ Q t
-      to t (inl (inl x)) = inl x
-      to t (inl (inr x)) = inr (x .0)
-      to t (inr x) = inr (x .0)
-
-      sort : (t : List ℕ) → Q t → (weigh t ≤ weigh b) ⊎ (weigh t ≤ weigh b → ⊥) → Dear t ⊎ (Q t × (weigh t ≤ weigh b))
-      sort t q (inl l) = inr (q, l)
-      sort t q (inr n) = inl (inr (q, (omega arith)))
-
-      fro : (t : List ℕ) → P t ⊎ Q t → Dear t ⊎ (Q t × (weigh t ≤ weigh b))
-      fro t (inl x) = inl (inl x)
-      fro t (inr q) = sort t q (decide (says-le (weigh t) (weigh b)))

@@ -61,31 +61,11 @@ module _ {fitb : ℕ → ℕ → Bool} {Fit : ℕ → ℕ → Type 0} (says : (p
   pub says-ordered : (p : ℕ) (xs : List ℕ) (q : ℕ) → Says (chainb fitb p xs q) (Ordered Fit p xs q)
   says-ordered p xs q = record { so = chain-so p xs q; back = chain-back }
 
-module _ {fitb : ℕ → ℕ → Bool} {Fit : ℕ → ℕ → Type 0} (says : (p q : ℕ) → Says (fitb p q) (Fit p q)) where
-  chain-insert : (p : ℕ) (before : List ℕ) (x : ℕ) (after : List ℕ) (q : ℕ) → T (chainb fitb p (before ++ after) q) → T (chainb fitb p (before ++ x ∷ after) q)
-  chain-insert p [] x after q t = chain-wider says p x after q t
-  chain-insert p (y ∷ before) x after q t =
-      go (λ s. chain-insert p before x after q s) (λ s. chain-insert y before x after q s)
-      (says-or (says-T (chainb fitb p (before ++ after) q)) (says-and (says-T (fitb p y)) (says-T (chainb fitb y (before ++ after) q))) .so t)
-    where
-      go : (T (chainb fitb p (before ++ after) q) → T (chainb fitb p (before ++ x ∷ after) q)) → (T (chainb fitb y (before ++ after) q) → T (chainb fitb y (before ++ x ∷ after) q))
-          → T (chainb fitb p (before ++ after) q) ⊎ (T (fitb p y) × T (chainb fitb y (before ++ after) q)) → T (chainb fitb p (y ∷ before ++ x ∷ after) q)
-      go f g (inl s) = says-or (says-T (chainb fitb p (before ++ x ∷ after) q)) (says-and (says-T (fitb p y)) (says-T (chainb fitb y (before ++ x ∷ after) q))) .back (inl (f s))
-      go f g (inr (k, s)) = says-or (says-T (chainb fitb p (before ++ x ∷ after) q)) (says-and (says-T (fitb p y)) (says-T (chainb fitb y (before ++ x ∷ after) q))) .back (inr (k, g s))
-
-  -- one node more between changes nothing that is ordered
-  pub ordered-insert : (p : ℕ) (before : List ℕ) (x : ℕ) (after : List ℕ) (q : ℕ) → Ordered Fit p (before ++ after) q → Ordered Fit p (before ++ x ∷ after) q
-  ordered-insert p before x after q o = says-ordered says p (before ++ x ∷ after) q .so (chain-insert p before x after q (says-ordered says p (before ++ after) q .back o))
-
 abbrev pub linkedb : List Rule → (ℕ → Label) → ℕ → List ℕ → ℕ → Bool
 linkedb rules l a between b = chainb (λ p q. ruledb rules (l p) (l q)) a between b
 
 pub says-linked : (rules : List Rule) (l : ℕ → Label) (a : ℕ) (between : List ℕ) (b : ℕ) → Says (linkedb rules l a between b) (Linked rules l a between b)
 says-linked rules l a between b = says-ordered (λ p q. says-ruled rules (l p) (l q)) a between b
-
--- one node more between changes nothing
-pub linked-insert : (rules : List Rule) (l : ℕ → Label) (a : ℕ) (before : List ℕ) (x : ℕ) (after : List ℕ) (b : ℕ) → Linked rules l a (before ++ after) b → Linked rules l a (before ++ x ∷ after) b
-linked-insert rules l a before x after b o = ordered-insert (λ p q. says-ruled rules (l p) (l q)) a before x after b o
 
 module _ (g : Graph) (rules : List Rule) where
   abbrev pub ordersb : ℕ → List ℕ → ℕ → Bool
@@ -95,7 +75,7 @@ module _ (g : Graph) (rules : List Rule) where
   says-orders a between b = says-linked rules (label g) a between b
 
 module _ (Fit : ℕ → ℕ → Type 0) where
-  -- q is ordered after p exactly when a rule fits them, or fits one between, ordered after p, and q: what a test from left to right looks for
+  -- if q is ordered after p, a rule fits them, or fits one between, ordered after p, and q: what a test from left to right looks for
   abbrev pub LastLink : ℕ → List ℕ → ℕ → Type 0
   LastLink p between q =
       Fit p q ⊎ ((before : List ℕ) × (k : ℕ) × (after : List ℕ) × (between ≡ before ++ k ∷ after) × Ordered Fit p before k × Fit k q)
@@ -108,7 +88,3 @@ module _ (Fit : ℕ → ℕ → Type 0) where
       go (inl f) = inr (before, k, after, e, o₁, f)
       go (inr (b′, k′, a′, e′, o, f)) =
           inr (before ++ k ∷ b′, k′, a′, e ∙ ap (λ (l : List ℕ). before ++ k ∷ l) e′ ∙ sym (append-assoc before (k ∷ b′) (k′ ∷ a′)), by-way k before b′ refl o₁ o, f)
-
-  pub link-last : {p : ℕ} {between : List ℕ} {q : ℕ} → LastLink p between q → Ordered Fit p between q
-  link-last (inl f) = by-rule f
-  link-last (inr (before, k, after, e, o, f)) = by-way k before after e o (by-rule f)

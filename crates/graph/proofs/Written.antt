@@ -99,9 +99,6 @@ same-labels g e = fun-ext (getD-snoc (g .nodes))
 pub orders-up : {rules : List Rule} (g : Graph) (e a : ℕ) (between : List ℕ) (b : ℕ) → Orders g rules a between b → Orders (fenced g e) rules a between b
 orders-up {rules} g e a between b o = subst⁻¹ (λ (l : ℕ → Label). Linked rules l a between b) (same-labels g e) o
 
-pub orders-down : {rules : List Rule} (g : Graph) (e a : ℕ) (between : List ℕ) (b : ℕ) → Orders (fenced g e) rules a between b → Orders g rules a between b
-orders-down {rules} g e a between b o = subst (λ (l : ℕ → Label). Linked rules l a between b) (same-labels g e) o
-
 -- held on the routes that avoid e and c: held, once e has a fence, on those that avoid c
 pub held-fenced : {rules : List Rule} → Fencing rules → (g : Graph) (e : ℕ) → e < length (g .edges) → (c : List ℕ) (a b : ℕ)
     → a < length (g .nodes) → b < length (g .nodes) → HeldWithout g rules (e ∷ c) a b → HeldWithout (fenced g e) rules c a b
