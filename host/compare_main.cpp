@@ -1,0 +1,162 @@
+// Compares library and reference on generated files, group by group, and says how many groups passed.
+//
+//     compare            the gate's measure: 22,000 files, fixed seeds and one fresh one
+//     compare FACTOR     so many times as many files
+//     compare FACTOR SEED    the same, with this seed in place of the fresh one
+#include <algorithm>
+#include <chrono>
+#include <cstdio>
+#include <cstdlib>
+
+#include "compare.hpp"
+#include "generate.hpp"
+
+using namespace reference;
+using generate::Random;
+
+namespace {
+
+constexpr std::size_t ample = 4096;
+
+// A buffer's length that is interesting for what is to be written: exact, one less, one more, none, or ample.
+std::size_t room_for(Random &random, std::size_t exact) {
+    switch (random.below(8)) {
+        case 0: return exact;
+        case 1: return exact == 0 ? 0 : exact - 1;
+        case 2: return exact + 1;
+        case 3: return 0;
+        case 4: return random.below(exact + 1);
+        default: return ample;
+    }
+}
+
+Number order_for(Random &random, std::size_t orders) {
+    if (random.chance(85) && orders > 0) return random.below(orders);
+    const Number others[] = {orders, orders + 1, Number{1} << 32, Number{1} << 63, ~Number{0}};
+    return others[random.below(5)];
+}
+
+Number count_for(Random &random, std::size_t nodes) {
+    const Number counts[] = {nodes, nodes - 1, 0, nodes + 1, random.below(nodes + 1), Number{1} << 63, Number{1} << 32 | nodes};
+    return counts[random.below(7)];
+}
+
+// All three operations on one file, and strip on what run wrote.
+void compare_file(Comparison &comparison, Random &random, const Bytes &file) {
+    const Reading reading = read(file);
+    const Report whole = run(file, ample);
+    comparison.run(file, ample);
+    comparison.run(file, room_for(random, whole.out.size()));
+    for (unsigned i = 0; i < 2; ++i) {
+        const Number order = order_for(random, reading.request.orders.size());
+        comparison.ask(file, order, random.chance(90) ? 64 : random.below(66));
+    }
+    const std::size_t nodes = reading.request.nodes.size();
+    const Number count = count_for(random, nodes);
+    comparison.strip(file, count, room_for(random, file.size()));
+    if (whole.answer == 0 && whole.fences > 0) comparison.strip(whole.out, nodes, room_for(random, file.size()));
+}
+
+// Run, other orders, run again; then off with all the fences, or with some.
+void compare_chain(Comparison &comparison, Random &random, Request request) {
+    const unsigned first_nodes = static_cast<unsigned>(request.nodes.size());
+    for (unsigned runs = random.between(2, 4); runs > 0; --runs) {
+        const Bytes file = written(request);
+        comparison.run(file, ample);
+        const Report report = run(file, ample);
+        if (report.answer != 0) return;
+        comparison.run(report.out, ample);
+        request = read(report.out).request;
+        const unsigned named = random.chance(70) ? first_nodes : static_cast<unsigned>(request.nodes.size());
+        request.orders = generate::orders(random, named, 5);
+    }
+    const Bytes file = written(request);
+    comparison.strip(file, first_nodes, ample);
+    comparison.strip(file, random.between(first_nodes, static_cast<unsigned>(request.nodes.size())), ample);
+    comparison.strip(file, first_nodes - std::min(1u, first_nodes), ample);
+}
+
+void small_files(Comparison &comparison, Random &random) {
+    compare_file(comparison, random, written(generate::small(random)));
+}
+void large_files(Comparison &comparison, Random &random) {
+    compare_file(comparison, random, written(generate::large(random)));
+}
+void limit_files(Comparison &comparison, Random &random) {
+    compare_file(comparison, random, written(generate::at_limits(random)));
+}
+void damaged_files(Comparison &comparison, Random &random) {
+    compare_file(comparison, random, generate::damaged(random, written(generate::small(random))));
+}
+void damaged_limit_files(Comparison &comparison, Random &random) {
+    compare_file(comparison, random, generate::damaged(random, written(generate::at_limits(random))));
+}
+void soups(Comparison &comparison, Random &random) { compare_file(comparison, random, generate::soup(random)); }
+void chains(Comparison &comparison, Random &random) {
+    compare_chain(comparison, random, random.chance(80) ? generate::small(random) : generate::large(random));
+}
+
+struct Group {
+    const char *name;
+    void (*compare)(Comparison &, Random &);
+    unsigned files;
+};
+
+constexpr Group groups[] = {
+    {"small", small_files, 4000},    {"large", large_files, 300},
+    {"limits", limit_files, 100},    {"damaged", damaged_files, 4000},
+    {"damaged limits", damaged_limit_files, 200},
+    {"soup", soups, 1400},           {"chains", chains, 1000},
+};
+
+struct Count {
+    unsigned passed = 0, failed = 0;
+    void add(bool good) { ++(good ? passed : failed); }
+};
+
+void compare_groups(std::uint64_t seed, unsigned factor, Count &count) {
+    for (const Group &group : groups) {
+        Random random(seed);
+        Comparison comparison;
+        const auto start = std::chrono::steady_clock::now();
+        for (unsigned i = 0; i < group.files * factor; ++i) group.compare(comparison, random);
+        const std::chrono::duration<double> took = std::chrono::steady_clock::now() - start;
+        std::printf("compare %-14s seed %llu: %u files, %zu calls, %zu differences, %.1f s\n", group.name,
+                    static_cast<unsigned long long>(seed), group.files * factor, comparison.calls(),
+                    comparison.differences(), took.count());
+        std::fflush(stdout);
+        count.add(comparison.differences() == 0);
+    }
+}
+
+// A group of its own: what is never reached is never compared.
+bool every_answer_reached() {
+    const std::vector<unsigned> possible[] = {
+        {0, 1, 2, 3, 4, 5, 6, 7, 9, 11}, {0, 1, 2, 3, 4, 5, 6, 7, 8, 11}, {0, 1, 2, 3, 4, 5, 6, 7, 10, 11}};
+    const char *names[] = {"run", "ask", "strip"};
+    bool all = true;
+    for (unsigned operation = 0; operation < 3; ++operation) {
+        std::printf("reached by %-5s", names[operation]);
+        for (unsigned answer : possible[operation]) {
+            const std::size_t times = Comparison::reached(Comparison::Operation(operation), answer);
+            std::printf("  %u: %zu", answer, times);
+            all = all && times > 0;
+        }
+        std::printf("\n");
+    }
+    return all;
+}
+
+}  // namespace
+
+int main(int arguments, char **argument) {
+    const unsigned factor = arguments > 1 ? std::max(1, std::atoi(argument[1])) : 1;
+    const std::uint64_t clock = std::chrono::system_clock::now().time_since_epoch().count();
+    const std::uint64_t fresh = arguments > 2 ? std::strtoull(argument[2], nullptr, 10) : clock / 1000;
+    Count count;
+    compare_groups(1, factor, count);
+    compare_groups(fresh, factor, count);
+    count.add(every_answer_reached());
+    std::printf("%u groups passed, %u failed\n", count.passed, count.failed);
+    return count.failed == 0 ? 0 : 1;
+}

@@ -1,0 +1,48 @@
+// A seeded generator of requests and files: the same seed gives the same files on every machine.
+#ifndef GENERATE_HPP
+#define GENERATE_HPP
+
+#include "reference.hpp"
+
+namespace generate {
+
+using namespace reference;
+
+// Two draws never stand in one call's arguments: their order would be the compiler's choice.
+class Random {
+public:
+    explicit Random(std::uint64_t seed) : state_(seed) {}
+
+    std::uint64_t next();  // splitmix64
+    unsigned below(std::size_t bound) { return static_cast<unsigned>(next() % bound); }
+    unsigned between(unsigned low, unsigned high) { return low + below(high - low + 1); }
+    bool chance(unsigned percent) { return below(100) < percent; }
+
+private:
+    std::uint64_t state_;
+};
+
+// The 20 rules that answer 5 lets pass.
+const std::vector<Rule> &legal_rules();
+
+// Up to eight nodes: loops, self-edges, fences already there, orders both ways, many rule sets and weights.
+Request small(Random &random);
+
+// Lines, ladders and loops of up to 64 nodes, with few routes between any two nodes.
+Request large(Random &random);
+
+// Counts at their limits, or one below or beyond.
+Request at_limits(Random &random);
+
+// A file spoiled in one to three ways: cut off, bytes changed, records moved, doubled, dropped or put in.
+Bytes damaged(Random &random, Bytes file);
+
+// Marks and bytes in any order.
+Bytes soup(Random &random);
+
+// Other orders over the nodes below `nodes`.
+std::vector<Order> orders(Random &random, unsigned nodes, unsigned most);
+
+}  // namespace generate
+
+#endif

@@ -1,0 +1,154 @@
+// The chosen cut, in two exact ways: by trying every set of edges, and, where there are too many sets, by deciding
+// edge after edge. The tests hold the two against each other.
+#include "reference.hpp"
+
+#include <algorithm>
+#include <map>
+
+namespace reference {
+namespace {
+
+constexpr std::size_t few = 14;  // with so many edges that matter, every set is tried
+
+// The routes of the open orders, each as the set of its edges, and the edges on them. No other edge can be in a cut
+// of least weight, since without it the cut would be lighter.
+struct Problem {
+    std::vector<unsigned> edges;            // rising edge numbers
+    std::vector<std::vector<bool>> meets;   // meets[r][i]: route r runs over edges[i]
+    std::vector<Number> weights;
+};
+
+std::vector<Route> open_routes(const Request &request) {
+    std::vector<Route> all;
+    for (const Order &order : request.orders) {
+        if (first_unordered(request, order).empty()) continue;
+        for (Route &route : routes(request, order)) all.push_back(std::move(route));
+    }
+    return all;
+}
+
+Problem problem_of(const Request &request) {
+    std::map<std::pair<unsigned, unsigned>, unsigned> number;
+    for (unsigned i = 0; i < request.edges.size(); ++i) number[{request.edges[i].from, request.edges[i].to}] = i;
+    const std::vector<Route> all = open_routes(request);
+    std::map<unsigned, std::size_t> used;
+    for (const Route &route : all)
+        for (std::size_t p = 1; p < route.size(); ++p) used[number[{route[p - 1], route[p]}]] = 0;
+    Problem problem;
+    for (auto &[edge, index] : used) {
+        index = problem.edges.size();
+        problem.edges.push_back(edge);
+        problem.weights.push_back(request.edges[edge].weight);
+    }
+    for (const Route &route : all) {
+        std::vector<bool> on(problem.edges.size(), false);
+        for (std::size_t p = 1; p < route.size(); ++p) on[used[number[{route[p - 1], route[p]}]]] = true;
+        problem.meets.push_back(on);
+    }
+    // Shorter routes first, and each once: the bound below gets sharper, the problem stays the same.
+    const auto size = [](const std::vector<bool> &on) { return std::count(on.begin(), on.end(), true); };
+    std::sort(problem.meets.begin(), problem.meets.end(), [&](const auto &a, const auto &b) {
+        return size(a) != size(b) ? size(a) < size(b) : a < b;
+    });
+    problem.meets.erase(std::unique(problem.meets.begin(), problem.meets.end()), problem.meets.end());
+    return problem;
+}
+
+Cut subsets(const Problem &problem) {
+    std::vector<std::uint32_t> sets;
+    for (const auto &on : problem.meets) {
+        std::uint32_t set = 0;
+        for (std::size_t i = 0; i < on.size(); ++i) set |= std::uint32_t{on[i]} << i;
+        sets.push_back(set);
+    }
+    Cut best;
+    Number least = ~Number{0};
+    for (std::uint32_t chosen = 0; chosen >> problem.edges.size() == 0; ++chosen) {
+        Cut cut;
+        Number weight = 0;
+        for (std::size_t i = 0; i < problem.edges.size(); ++i)
+            if (chosen >> i & 1) cut.push_back(problem.edges[i]), weight += problem.weights[i];
+        if (weight > least || (weight == least && !(cut < best))) continue;
+        if (std::all_of(sets.begin(), sets.end(), [&](std::uint32_t set) { return (set & chosen) != 0; }))
+            best = cut, least = weight;
+    }
+    return best;
+}
+
+// Decides the edges in rising order, taking before leaving. So the sets come in the order of their rising lists, and of
+// several least ones the first stays.
+class Decision {
+public:
+    explicit Decision(const Problem &problem) : problem_(problem), taken_(problem.edges.size(), false) {}
+
+    Cut best() {
+        decide(0, 0, problem_.meets);
+        return best_;
+    }
+
+private:
+    using Routes = std::vector<std::vector<bool>>;
+
+    // At least so much more must be spent on the routes not met: each pays what its edges from `next` on can still bear.
+    // Never is when a route has no such edge.
+    Number bound(std::size_t next, const Routes &unmet) const {
+        std::vector<Number> left = problem_.weights;
+        Number total = 0;
+        for (const auto &on : unmet) {
+            Number pays = never;
+            for (std::size_t i = next; i < on.size(); ++i)
+                if (on[i]) pays = std::min(pays, left[i]);
+            if (pays == never) return never;
+            for (std::size_t i = next; i < on.size(); ++i)
+                if (on[i]) left[i] -= pays;
+            total += pays;
+        }
+        return total;
+    }
+
+    void decide(std::size_t next, Number weight, const Routes &unmet) {
+        const Number more = bound(next, unmet);
+        if (more == never || weight + more >= least_) return;
+        if (unmet.empty()) {
+            least_ = weight;
+            best_.clear();
+            for (std::size_t i = 0; i < taken_.size(); ++i)
+                if (taken_[i]) best_.push_back(problem_.edges[i]);
+            return;
+        }
+        Routes without;
+        for (const auto &on : unmet)
+            if (!on[next]) without.push_back(on);
+        if (without.size() < unmet.size()) {  // an edge that meets nothing new is in no least cut
+            taken_[next] = true;
+            decide(next + 1, weight + problem_.weights[next], without);
+            taken_[next] = false;
+        }
+        decide(next + 1, weight, unmet);
+    }
+
+    static constexpr Number never = ~Number{0};
+    const Problem &problem_;
+    std::vector<bool> taken_;
+    Cut best_;
+    Number least_ = never;
+};
+
+}  // namespace
+
+Cut cut_by_subsets(const Request &request) { return subsets(problem_of(request)); }
+
+Cut cut_by_deciding(const Request &request) { return Decision(problem_of(request)).best(); }
+
+Cut chosen_cut(const Request &request) {
+    const Problem problem = problem_of(request);
+    return problem.edges.size() <= few ? subsets(problem) : Decision(problem).best();
+}
+
+Number weight_of(const Request &request, const Cut &cut) {
+    Number weight = 0;
+    for (unsigned edge : cut) weight += request.edges[edge].weight;
+    return weight;
+}
+
+}  // namespace reference

@@ -1,0 +1,52 @@
+#!/usr/bin/env bash
+# Builds and runs the host tests against target/staticlib/libfence.a (made by `rt staticlib fence`), on x86-64 directly,
+# elsewhere with a cross compiler and an emulator. Installs what is missing. Its last line is 'N passed, M failed'.
+#
+#     host/run.sh            the gate's measure
+#     host/run.sh FACTOR     so many times as many files in the comparison
+set -u -o pipefail
+cd "$(dirname "$0")" || exit 1
+
+factor=${1:-1}
+archive=$PWD/../target/staticlib/libfence.a
+build=$PWD/../target/host
+passed=0
+failed=0
+
+fail() { printf '%s\n%d passed, %d failed\n' "$1" "$passed" $((failed + 1)); exit 1; }
+
+# shellcheck source=machine.sh
+. ./machine.sh
+
+[ -f "$archive" ] || fail "the library is missing: run 'rt staticlib fence'"
+install_missing doctest-dev cmake make || fail "packages could not be installed: see $install_log"
+
+mkdir -p "$build"
+log=$build/log
+{ cmake -S . -B "$build" "${cmake_words[@]}" -DFENCE_ARCHIVE="$archive" && cmake --build "$build" -j 1; } >"$log" 2>&1 ||
+    { cat "$log"; fail "the host tests could not be built"; }
+
+# Runs a program and takes the two counts from its last matching line.
+counted() {
+    local pattern=$1; shift
+    local text; text=$("${emulator[@]}" "$@" 2>&1); local status=$?
+    printf '%s\n' "$text"
+    if [[ "$text" =~ $pattern ]] && [ $((10#${BASH_REMATCH[2]})) -eq 0 ] && [ "$status" -ne 0 ]; then
+        failed=$((failed + 1))
+    elif [[ "$text" =~ $pattern ]]; then
+        passed=$((passed + 10#${BASH_REMATCH[1]})); failed=$((failed + 10#${BASH_REMATCH[2]}))
+    else
+        echo "$1: status $status, and no count"; failed=$((failed + 1))
+    fi
+}
+
+counted '\| +([0-9]+) passed \| +([0-9]+) failed' "$build/tests" --no-colors=true
+if [ "$("${emulator[@]}" "$build/example")" = "2 fences of weight 2, 108 bytes" ]; then
+    passed=$((passed + 1))
+else
+    echo "the example in fence.h prints something else"; failed=$((failed + 1))
+fi
+counted '([0-9]+) groups passed, ([0-9]+) failed' "$build/compare" "$factor"
+
+printf '%d passed, %d failed\n' "$passed" "$failed"
+[ "$failed" -eq 0 ]

@@ -1,0 +1,84 @@
+// How much stack the calls take: each runs on a stack painted beforehand, and the deepest touched byte is found.
+#include <doctest/doctest.h>
+#include <ucontext.h>
+
+#include <algorithm>
+#include <cstdio>
+#include <functional>
+
+#include "fence.h"
+#include "generate.hpp"
+#include "samples.hpp"
+
+using namespace samples;
+
+namespace {
+
+constexpr std::uint8_t paint = 0x5A;
+std::vector<std::uint8_t> stack(4 << 20);
+ucontext_t caller, callee;
+std::function<void()> work;
+
+void enter() { work(); }
+
+// Bytes of stack that `call` touches.
+std::size_t stack_of(std::function<void()> call) {
+    work = std::move(call);
+    std::fill(stack.begin(), stack.end(), paint);
+    getcontext(&callee);
+    callee.uc_stack.ss_sp = stack.data();
+    callee.uc_stack.ss_size = stack.size();
+    callee.uc_link = &caller;
+    makecontext(&callee, enter, 0);
+    swapcontext(&caller, &callee);
+    const auto touched = std::find_if(stack.begin(), stack.end(), [](std::uint8_t byte) { return byte != paint; });
+    return static_cast<std::size_t>(stack.end() - touched);
+}
+
+// 31 sources, each with an edge to the sink and over five nodes whose edges on to it are too heavy to cut: the least cut
+// has 186 of the 191 edges, and the search goes one deeper for each.
+Request deep() {
+    Request request{std::vector<Node>(37, {store, 1}), {}, fence_rules, {}};
+    const unsigned sink = 36;
+    for (unsigned source = 0; source < 31; ++source) {
+        for (unsigned middle = 31; middle < 36; ++middle) request.edges.push_back({source, middle, 1});
+        request.edges.push_back({source, sink, 1});
+        request.orders.push_back({source, sink});
+    }
+    for (unsigned middle = 31; middle < 36; ++middle) request.edges.push_back({middle, sink, 65535});
+    return request;
+}
+
+struct Deepest {
+    std::size_t run = 0, ask = 0, strip = 0;
+};
+
+void measure(const Request &request, Deepest &deepest) {
+    const Bytes file = written(request);
+    std::uint8_t out[FENCE_MAX_FILE];
+    std::uint16_t route[FENCE_ROUTE_ENTRIES];
+    const auto raise = [](std::size_t &most, std::size_t now) { most = std::max(most, now); };
+    fence_report report{};
+    raise(deepest.run, stack_of([&] { report = fence_run(file.data(), file.size(), out, sizeof out); }));
+    if (!request.orders.empty())
+        raise(deepest.ask, stack_of([&] { fence_ask(file.data(), file.size(), 0, route, FENCE_ROUTE_ENTRIES); }));
+    if (report.answer != 0) return;
+    const Bytes fenced(out, out + report.length);
+    const std::size_t nodes = request.nodes.size();
+    raise(deepest.strip, stack_of([&] { fence_strip(fenced.data(), fenced.size(), nodes, out, sizeof out); }));
+}
+
+}  // namespace
+
+TEST_CASE("no call takes more stack than fence.h says") {
+    generate::Random random(5);
+    Deepest deepest;
+    for (unsigned n : {2, 20, 63, 64}) measure(line(n), deepest);
+    for (unsigned i = 0; i < 100; ++i) measure(generate::small(random), deepest);
+    for (unsigned i = 0; i < 20; ++i) measure(generate::large(random), deepest);
+    measure(deep(), deepest);
+    std::printf("deepest stack met: run %zu, ask %zu, strip %zu bytes\n", deepest.run, deepest.ask, deepest.strip);
+    CHECK(deepest.run < FENCE_RUN_STACK);
+    CHECK(deepest.ask < FENCE_ASK_STACK);
+    CHECK(deepest.strip < FENCE_STRIP_STACK);
+}
