@@ -1,25 +1,28 @@
--- What run writes is a file that is accepted again.
+-- What run and strip write is a file that is accepted again.
 -- Assumes nothing.
-use mathlib.Core.List.{List, List·Memᴰ, List·Memᴰ·append-cases, List·Memᴰ·eq-of-singleton, [], _∷_}
+use mathlib.Core.List.{List, List·Memᴰ, List·Memᴰ·append-cases, List·Memᴰ·eq-of-singleton, [], _∷_, Memᴰ·append-left}
 use mathlib.Core.Logic.{_⊎_, inl, inr}
-use mathlib.Core.Path.{_≡_, subst⁻¹}
+use mathlib.Core.Path.{_≡_, subst⁻¹, subst}
 use Prim.Native.Nat.{_+_, _<_, _≤_, ℕ}
 use native.Mathlib.Omega.{arith}
-use lib.ListN.{length}
+use lib.ListN.{length, drop, take, take-append-drop}
 use Rattle.graph.specs.declared.Label.{Label}
 use Rattle.graph.specs.declared.Label.the-variants.{Fence}
 use Rattle.graph.specs.declared.Order.{Order}
 use Rattle.fence.specs.Outcome.{withGraph}
 use Rattle.graph.specs.Cut.{Rising}
-use Rattle.graph.specs.Graph.{Graph, Orderly, edge}
+use Rattle.graph.specs.Graph.{Graph, Orderly, edge, no-order, order}
 use Rattle.graph.specs.Held.{Within}
 use Rattle.graph.specs.Limits.{most-edges, most-nodes}
+use Rattle.graph.specs.Strip.{AllName, StripTo, Stripped, done, take-off}
 use Rattle.graph.specs.Written.{fenced, written}
 use Rattle.request.specs.File.{Request}
 use Rattle.request.specs.Proper.{Addressed, Proper}
 use Rattle.walk.specs.Search.{ends}
+use Rattle.graph.proofs.Joined.{joined-edges, stripped-edges, stripped-sound, weight-from}
+use Rattle.graph.proofs.Members.{at-mem}
 use Rattle.graph.proofs.Runs.{written-nodes, written-sound}
-use Rattle.graph.proofs.Strip.{Place, place}
+use Rattle.graph.proofs.Strip.{Place, place, stripped-fewer}
 use Rattle.graph.proofs.Written.{fenced-count, rising-within, within-more}
 
 -- no edge weighs more than its field holds
@@ -77,3 +80,33 @@ proper-written q c p r few fewer = record {
 
     nodes : length ((written (q .graph) c) .nodes) ≡ length (q .graph .nodes) + length c
     nodes = written-nodes (q .graph) c w
+
+-- ---- what strip leaves
+
+light-stripped : {g h : Graph} {t : ℕ} → Stripped g t h → Light g → Light h
+light-stripped done light = light
+light-stripped (take-off {g = g} v i m x p) light = light-stripped p (λ j h. let w = weight-from g v i m x j (omega (arith, joined-edges g v i m x)) in let b = light (w .0) (w .1) in omega (arith, w .2))
+
+kept-front : {A : Type 0} (n : ℕ) (l : List A) (x : A) → List·Memᴰ x (take n l) → List·Memᴰ x l
+kept-front n l x m = subst (List·Memᴰ x) (take-append-drop n l) (Memᴰ·append-left (drop n l) m)
+
+addressed-stripped : {g h : Graph} {t : ℕ} → Stripped g t h → ((x : Label) → List·Memᴰ x (g .nodes) → Addressed x) → (x : Label) → List·Memᴰ x (h .nodes) → Addressed x
+addressed-stripped done all x m = all x m
+addressed-stripped (take-off {g = g} v i m l p) all x n = addressed-stripped p (λ y k. all y (kept-front v (g .nodes) y k)) x n
+
+orderly-fewer : (m n : ℕ) (orders : List Order) → AllName n orders → Orderly m orders → Orderly n orders
+orderly-fewer m n orders names o = record { ends = λ i k. let e = o .ends i k in let b = names (order orders i) (at-mem no-order orders i k) in (b .0, b .1, e .2); once = o .once }
+
+pub proper-stripped : (q : Request) (count total : ℕ) (h : Graph) → Proper q → StripTo count (q .orders) (q .graph) total h → Proper (withGraph q h)
+proper-stripped q count total h p way = record {
+  few-nodes = omega (arith, stripped-fewer (way .stripped), p .few-nodes);
+  few-edges = omega (arith, stripped-edges (way .stripped), p .few-edges);
+  few-rules = p .few-rules;
+  few-orders = p .few-orders;
+  addressed = addressed-stripped (way .stripped) (p .addressed);
+  sound = stripped-sound (way .stripped) (p .sound);
+  light = light-stripped (way .stripped) (p .light);
+  formed = p .formed;
+  orderly = orderly-fewer (length (q .graph .nodes)) (length (h .nodes)) (q .orders) (subst⁻¹ (λ (n : ℕ). AllName n (q .orders)) (way .left) (way .names)) (p .orderly);
+  fences = p .fences;
+}

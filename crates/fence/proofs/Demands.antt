@@ -18,14 +18,13 @@ use Rattle.graph.specs.Cut.{ChosenCut, weight}
 use Rattle.graph.specs.Demands.{AskedIn}
 use Rattle.graph.specs.Graph.{Graph, Sound, no-order}
 use Rattle.graph.specs.Limits.{most-edges, most-nodes}
-use Rattle.graph.specs.Samples.{asked}
 use Rattle.graph.specs.Strip.{AllName, Names, StripTo}
 use Rattle.graph.specs.Written.{FenceRules, written}
 use Rattle.request.specs.Answers.{number}
 use Rattle.request.specs.File.{Request, bytes}
 use Rattle.request.specs.Proper.{Proper}
 use Rattle.request.specs.Raw.{file}
-use Rattle.fence.proofs.Again.{proper-written}
+use Rattle.fence.proofs.Again.{proper-written, proper-stripped}
 use Rattle.fence.proofs.Off.{strip-accepted}
 use Rattle.fence.proofs.Ran.{Crowded, run-accepted}
 use Rattle.fence.proofs.Unique.{run-unique, strip-unique}
@@ -95,6 +94,17 @@ demand-2 {s} {q} {c} {t} x = record { only = D .only; again = again; held = D .h
         _ (over before s)
         (λ i. record { answer = 0; place = 0; fences = sym fences i; weight = weight (q .graph) c; length = length (x .reads .is-bytes i) })
         (ap (over before) (x .reads .is-bytes)))
+
+-- what strip writes is a file again
+pub strip-again : {s before after : List ℕ} {count : ℕ} {r : Report} → StripOutcome s count before r after → r .answer ≡ 0 → (q : Request) × Reads (take (r .length) after) q
+strip-again (refused a p b e f) z = absurd (not-zero a (sym (ap (λ (x : Report). x .answer) e) ∙ z))
+strip-again {before = before} {count = count} (accepted q total h reads way none-bad e f) z = (
+  withGraph q h,
+  record {
+    is-bytes = ap₂ (λ (n : ℕ) (l : List ℕ). take n l) (ap (λ (x : Report). x .length) e) f ∙ take-append-seam (bytes (withGraph q h)) (drop (length (bytes (withGraph q h))) before);
+    proper = proper-stripped q count total h (reads .proper) way;
+  },
+)
 
 -- ---- demand 3
 

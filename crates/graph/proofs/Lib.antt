@@ -14,6 +14,7 @@ pub mod Search
 pub mod Exists
 pub mod Written
 pub mod Strip
+pub mod Joined
 pub mod Runs
 pub mod Members
 pub mod Value

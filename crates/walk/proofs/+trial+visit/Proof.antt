@@ -26,7 +26,7 @@ use Rattle.flags.proofs.size.Reads as size-reads
 use Rattle.flags.proofs.with.Reads as with-reads
 use Rattle.flags.proofs.without.Reads as without-reads
 use Rattle.flags.proofs.word.Reads as word-reads
-use Rattle.walk.proofs.hopeful.Reads as hopeful-reads
+use Rattle.walk.proofs.hoping.hopeful.Reads as hopeful-reads
 use Rattle.walk.proofs.marked.Reads as marked-reads
 use Rattle.walk.proofs.+trial+visit.{statement}
 use Rattle.walk.proofs.+trial+visit.Tie.{close}

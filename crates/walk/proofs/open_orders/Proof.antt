@@ -10,7 +10,7 @@ use Rattle.walk.proofs.open_orders.Tie as tie
 use Rattle.walk.proofs.open_orders.Reads as reads
 use Rattle.walk.proofs.open_orders.Lts as lts
 use Rattle.walk.proofs.open_route.Reads as open-route-reads
-use Rattle.walk.proofs.words_of.Reads as words-of-reads
+use Rattle.walk.proofs.making.words_of.Reads as words-of-reads
 
 abbrev Inv-loop : tie.InvT-loop
 Inv-loop words orders open₀ i₀ i-end «open» i = (i ≤ i-end) × (length «open» ≡ most-orders) × ((j : ℕ) → j < i → Judged words orders «open» j)

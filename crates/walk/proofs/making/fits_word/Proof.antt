@@ -10,10 +10,10 @@ use Rattle.graph.specs.Fit.{ruledb}
 use Rattle.walk.specs.Words.{labelAt}
 use Rattle.walk.proofs.Counted.{getD-any}
 use Rattle.walk.proofs.Fill.{Gathered, gathered-none, gathered-put, gathered-skip}
-use Rattle.walk.proofs.fits_word.Statement.{statement}
-use Rattle.walk.proofs.fits_word.Tie as tie
-use Rattle.walk.proofs.fits_word.Reads as reads
-use Rattle.walk.proofs.fits_word.Lts as lts
+use Rattle.walk.proofs.making.fits_word.Statement.{statement}
+use Rattle.walk.proofs.making.fits_word.Tie as tie
+use Rattle.walk.proofs.making.fits_word.Reads as reads
+use Rattle.walk.proofs.making.fits_word.Lts as lts
 use Rattle.flags.proofs.with.Reads as with-reads
 use Rattle.graph.proofs.some_fits.Reads as some-fits-reads
 

@@ -10,10 +10,10 @@ use Rattle.graph.specs.Limits.{most-nodes}
 use Rattle.walk.specs.Search.{mark}
 use Rattle.walk.proofs.Hope.{ordered-already}
 use Rattle.walk.proofs.Reached.{Kept, kept-start, kept-on, kept-all}
-use Rattle.walk.proofs.hopeful.Statement.{statement}
-use Rattle.walk.proofs.hopeful.Tie as tie
-use Rattle.walk.proofs.hopeful.Reads as reads
-use Rattle.walk.proofs.hopeful.Lts as lts
+use Rattle.walk.proofs.hoping.hopeful.Statement.{statement}
+use Rattle.walk.proofs.hoping.hopeful.Tie as tie
+use Rattle.walk.proofs.hoping.hopeful.Reads as reads
+use Rattle.walk.proofs.hoping.hopeful.Lts as lts
 use Rattle.flags.proofs.both.Reads as both-reads
 use Rattle.flags.proofs.either.Reads as either-reads
 use Rattle.flags.proofs.has.Reads as has-reads
@@ -21,7 +21,7 @@ use Rattle.flags.proofs.lowest.Reads as lowest-reads
 use Rattle.flags.proofs.with.Reads as with-reads
 use Rattle.flags.proofs.without.Reads as without-reads
 use Rattle.flags.proofs.word.Reads as word-reads
-use Rattle.walk.proofs.lower.Reads as lower-reads
+use Rattle.walk.proofs.hoping.lower.Reads as lower-reads
 use Rattle.walk.proofs.marked.Reads as marked-reads
 
 abbrev Inv-loop : tie.InvT-loop

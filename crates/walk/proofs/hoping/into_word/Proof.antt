@@ -7,10 +7,10 @@ use Rattle.graph.specs.Limits.{most-nodes}
 use Rattle.walk.specs.Search.{Into}
 use Rattle.walk.specs.Words.{listed}
 use Rattle.walk.proofs.Hope.{into-none, into-put}
-use Rattle.walk.proofs.into_word.Statement.{statement}
-use Rattle.walk.proofs.into_word.Tie as tie
-use Rattle.walk.proofs.into_word.Reads as reads
-use Rattle.walk.proofs.into_word.Lts as lts
+use Rattle.walk.proofs.hoping.into_word.Statement.{statement}
+use Rattle.walk.proofs.hoping.into_word.Tie as tie
+use Rattle.walk.proofs.hoping.into_word.Reads as reads
+use Rattle.walk.proofs.hoping.into_word.Lts as lts
 use Rattle.flags.proofs.has.Reads as has-reads
 use Rattle.flags.proofs.with.Reads as with-reads
 use Rattle.flags.proofs.word.Reads as word-reads
