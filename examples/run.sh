@@ -1,0 +1,20 @@
+#!/usr/bin/env bash
+# Builds and runs the examples against target/staticlib/libfence.a, and renews the pictures beside them.
+# Installs what is missing: the compiler, graphviz, and off x86-64 an emulator.
+set -eu -o pipefail
+cd "$(dirname "$0")/.."
+
+# shellcheck source=../host/machine.sh
+. host/machine.sh
+install_missing graphviz || { echo "packages could not be installed: see $install_log"; exit 1; }
+
+build=target/examples
+mkdir -p "$build"
+for name in queue rebuilds; do
+    "$cxx" -std=c++17 -O1 -Wall -Wextra -Wpedantic -Werror -Iinclude "examples/$name.cpp" \
+        target/staticlib/libfence.a -o "$build/$name"
+    "${emulator[@]}" "$build/$name" examples
+done
+for name in queue_before queue_after; do
+    dot -Tsvg "examples/$name.dot" -o "examples/$name.svg"
+done
