@@ -5,7 +5,6 @@ use mathlib.Core.Logic.{_⊎_, inl, inr, _≢_}
 use mathlib.Core.Path.{_≡_, subst, subst⁻¹}
 use Prim.Native.Nat.{ℕ}
 use Rattle.graph.specs.Held.{Absent, NoneTwice, Follows}
-use Rattle.graph.specs.Samples.{or}
 use Rattle.graph.proofs.Says.{decide, says-eq}
 
 module _ (S : ℕ → ℕ → Type 0) where

@@ -17,6 +17,7 @@ use Rattle.fence.specs.Outcome.{Reads, RunOutcome, StripOutcome, accepte
 use Rattle.graph.specs.Cut.{ChosenCut, weight}
 use Rattle.graph.specs.Demands.{AskedIn}
 use Rattle.graph.specs.Graph.{Graph, Sound, no-order}
+use Rattle.graph.specs.Held.{Held}
 use Rattle.graph.specs.Limits.{most-edges, most-nodes}
 use Rattle.graph.specs.Strip.{AllName, Names, StripTo}
 use Rattle.graph.specs.Written.{FenceRules, written}
@@ -30,7 +31,7 @@ use Rattle.fence.proofs.Ran.{Crowded, run-accepted}
 use Rattle.fence.proofs.Unique.{run-unique, strip-unique}
 use Rattle.graph.proofs.Exists.{cut-exists}
 use Rattle.graph.proofs.Members.{mem-at}
-use Rattle.graph.proofs.Runs.{written-nodes}
+use Rattle.graph.proofs.Runs.{nothing-open, written-nodes}
 use Rattle.graph.proofs.Says.{says-le, stable}
 use Rattle.graph.proofs.Strip.{place}
 use Rattle.graph.proofs.Written.{rising-within}
@@ -106,6 +107,22 @@ strip-again {before = before} {count = count} (accepted q total h reads way none
   },
 )
 
+-- ---- a run with nothing open
+
+module _ (s : List ℕ) (q : Request) (reads : Reads s q) (held : (o : Order) → List·Memᴰ o (q .orders) → Held (q .graph) (q .rules) o) where
+  empty-cut : ChosenCut (q .graph) (q .rules) (q .orders) []
+  empty-cut = let x = cut-exists (q .graph) (q .rules) (reads .proper .sound) (q .orders) in subst (ChosenCut (q .graph) (q .rules) (q .orders)) (nothing-open held (x .1)) (x .1)
+
+  -- it returns its file unchanged
+  pub run-idle : (before : List ℕ) → length s ≤ length before → RunOutcome s before (record { answer = 0; place = 0; fences = 0; weight = 0; length = length s }) (over before s)
+  run-idle before l = run-accepted s q [] reads empty-cut before uncrowded (omega (arith, ap length (reads .is-bytes))) _ (over before s)
+      (λ i. record { answer = 0; place = 0; fences = 0; weight = 0; length = length (reads .is-bytes i) })
+      (ap (over before) (reads .is-bytes))
+    where
+      uncrowded : Crowded q [] → ⊥
+      uncrowded (inl z) = omega (arith, reads .proper .few-nodes)
+      uncrowded (inr z) = omega (arith, reads .proper .few-edges)
+
 -- ---- demand 3
 
 to-graphs : {rules : List Rule} {g h : Graph} {asked : List (List Order)} → Runs rules g asked h → graphs.Runs rules g asked h
@@ -116,24 +133,13 @@ module _ {rules : List Rule} (has : FenceRules rules) {g h : Graph} {asked : Lis
   D3 : graphs.Demand3 g rules asked h
   D3 = of-graphs.demand-3 has sound names (to-graphs runs)
 
-  -- the cut of orders that were asked before is empty
-  module _ (s : List ℕ) (q : Request) (reads : Reads s q) (e : q .graph ≡ h) (f : q .rules ≡ rules) (before-asked : (o : Order) → List·Memᴰ o (q .orders) → AskedIn o asked) where
-    empty-cut : ChosenCut (q .graph) (q .rules) (q .orders) []
-    empty-cut =
-        let x = cut-exists (q .graph) (q .rules) (reads .proper .sound) (q .orders) in
-        let y : ChosenCut h rules (q .orders) (x .0) = subst (λ (r : List Rule). ChosenCut h r (q .orders) (x .0)) f (subst (λ (k : Graph). ChosenCut k (q .rules) (q .orders) (x .0)) e (x .1)) in
-        subst (ChosenCut (q .graph) (q .rules) (q .orders)) (D3 .again (q .orders) before-asked (x .0) y .0) (x .1)
-
-    unchanged : (before after : List ℕ) (r : Report) → length s ≤ length before → RunOutcome s before r after
-        → (r ≡ record { answer = 0; place = 0; fences = 0; weight = 0; length = length s }) × (after ≡ over before s)
-    unchanged before after r l y = run-unique y
-        (run-accepted s q [] reads empty-cut before uncrowded (omega (arith, ap length (reads .is-bytes))) _ (over before s)
-        (λ i. record { answer = 0; place = 0; fences = 0; weight = 0; length = length (reads .is-bytes i) })
-        (ap (over before) (reads .is-bytes)))
-      where
-        uncrowded : Crowded q [] → ⊥
-        uncrowded (inl z) = omega (arith, reads .proper .few-nodes)
-        uncrowded (inr z) = omega (arith, reads .proper .few-edges)
+  unchanged : (s : List ℕ) (q : Request) → Reads s q → q .graph ≡ h → q .rules ≡ rules → ((o : Order) → List·Memᴰ o (q .orders) → AskedIn o asked)
+      → (before after : List ℕ) (r : Report) → length s ≤ length before → RunOutcome s before r after
+      → (r ≡ record { answer = 0; place = 0; fences = 0; weight = 0; length = length s }) × (after ≡ over before s)
+  unchanged s q reads e f before-asked before after r l y = run-unique y (run-idle s q reads held before l)
+    where
+      held : (o : Order) → List·Memᴰ o (q .orders) → Held (q .graph) (q .rules) o
+      held o m = subst⁻¹ (λ (x : List Rule). Held (q .graph) x o) f (subst⁻¹ (λ (k : Graph). Held k rules o) e (D3 .held o (before-asked o m)))
 
   pub demand-3 : Demand3 g rules asked h
   demand-3 = record { held = D3 .held; again = unchanged; off = off }

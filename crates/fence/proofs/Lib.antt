@@ -10,3 +10,4 @@ pub mod Freed
 pub mod Unique
 pub mod Again
 pub mod Demands
+pub mod Samples

@@ -13,7 +13,6 @@ use Rattle.graph.specs.Demands.{AskedIn}
 use Rattle.graph.specs.Graph.{Graph}
 use Rattle.graph.specs.Held.{Held}
 use Rattle.graph.specs.Limits.{most-edges, most-nodes}
-use Rattle.graph.specs.Samples.{asked}
 use Rattle.graph.specs.Strip.{AllName}
 use Rattle.graph.specs.Written.{written}
 use Rattle.request.specs.File.{Request, bytes}

@@ -2,3 +2,4 @@
 pub mod Outcome
 pub mod Ready
 pub mod Demands
+pub mod Samples

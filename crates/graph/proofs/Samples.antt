@@ -10,7 +10,7 @@ use lib.ListN.{length}
 use Rattle.graph.specs.declared.Order.{Order}
 use Rattle.graph.specs.declared.Rule.{Rule}
 use Rattle.graph.specs.Cut.{Rising, ChosenCut, weight, total}
-use Rattle.graph.specs.Graph.{Graph, Sound}
+use Rattle.graph.specs.Graph.{Graph, Sound, order}
 use Rattle.graph.specs.Held.{Held, Within}
 use Rattle.graph.specs.Samples.{Sample, ran, asked, off, not-off, Claim, samples, more-samples}
 use Rattle.graph.specs.Strip.{Stripped, AllName}
@@ -36,9 +36,9 @@ offb count orders g cut total = namesb count orders && (risingb 0 (length (g .ed
 
 abbrev sampleb : Sample → Bool
 sampleb (ran g rules orders held cut total) = soundb g && ranb g rules orders held cut total
-sampleb (asked g rules o route) = soundb g && askedb g rules o route
-sampleb (off count orders g cut total) = soundb g && offb count orders g cut total
-sampleb (not-off count orders g) = not (namesb count orders)
+sampleb (asked g rules orders number route) = soundb g && askedb g rules (order orders number) route
+sampleb (off count rules orders g cut total) = soundb g && offb count orders g cut total
+sampleb (not-off count rules orders g) = not (namesb count orders)
 
 sample-so : (s : Sample) → T (sampleb s) → Claim s
 sample-so (ran g rules orders held cut total) t = let r = rest in (sound, r .0, r .1 .0, r .1 .1)
@@ -50,10 +50,10 @@ sample-so (ran g rules orders held cut total) t = let r = rest in (sound, r .0, 
     rest = says-and (says-every (λ o. says-held g rules sound (o .first) (o .second)) held)
         (says-and (says-cut g rules sound orders cut) (says-eq (weight g cut) total))
         .so (both (soundb g) (ranb g rules orders held cut total) t .1)
-sample-so (asked g rules o route) t =
-    let p = both (soundb g) (askedb g rules o route) t in
-    (sound-so g (p .0), asked-so g rules (sound-so g (p .0)) o route (p .1))
-sample-so (off count orders g cut total) t = record {
+sample-so (asked g rules orders number route) t =
+    let p = both (soundb g) (askedb g rules (order orders number) route) t in
+    (sound-so g (p .0), asked-so g rules (sound-so g (p .0)) (order orders number) route (p .1))
+sample-so (off count rules orders g cut total) t = record {
   enough = omega (arith, written-nodes g cut w, q .1 .1 .1);
   names = q .0;
   stripped = subst⁻¹ (λ (n : ℕ). Stripped (written g cut) n g) (q .1 .1 .0) (stripped-written g cut (sound-so g (p .0)) w);
@@ -68,7 +68,7 @@ sample-so (off count orders g cut total) t = record {
 
     w : Within (length (g .edges)) cut
     w = rising-within 0 (length (g .edges)) cut (q .1 .0)
-sample-so (not-off count orders g) t = λ total left s. says-not (says-names count orders) .so t (s .names)
+sample-so (not-off count rules orders g) t = λ total left s. says-not (says-names count orders) .so t (s .names)
 
 pub samples-true : (s : Sample) → List·Memᴰ s samples → Claim s
 samples-true s m = sample-so s (says-every (λ x. says-T (sampleb x)) samples .so tt s m)

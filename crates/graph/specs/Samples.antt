@@ -11,7 +11,7 @@ use Rattle.graph.specs.declared.Side.{Side}
 use Rattle.graph.specs.declared.Side.the-variants.{Any, Is}
 use Rattle.graph.specs.Ask.{Asked}
 use Rattle.graph.specs.Cut.{ChosenCut, weight, total}
-use Rattle.graph.specs.Graph.{Graph, Sound, no-graph}
+use Rattle.graph.specs.Graph.{Graph, Sound, no-graph, order}
 use Rattle.graph.specs.Held.{Held}
 use Rattle.graph.specs.Strip.{StripTo}
 use Rattle.graph.specs.Written.{written}
@@ -48,19 +48,19 @@ loop = record { nodes = Store 1 ∷ Store 2 ∷ Load 3 ∷ []; edges = ed 0 1 1 
 pub data Sample : Type 0 where
   -- with this graph, rules and orders: those are held, the cut is this, and its weight this
   ran : Graph → List Rule → List Order → (held : List Order) → (cut : List ℕ) → (total : ℕ) → Sample
-  -- the order asked, and the route shown; none where it is held
-  asked : Graph → List Rule → Order → (route : List ℕ) → Sample
+  -- the number of the order asked, and the route shown; none where it is held
+  asked : Graph → List Rule → List Order → (number : ℕ) → (route : List ℕ) → Sample
   -- what is written for that cut, stripped to so many nodes, is the graph again, and the weight is this
-  off : (count : ℕ) → List Order → Graph → (cut : List ℕ) → (total : ℕ) → Sample
+  off : (count : ℕ) → List Rule → List Order → Graph → (cut : List ℕ) → (total : ℕ) → Sample
   -- an order names a node that would go
-  not-off : (count : ℕ) → List Order → Graph → Sample
+  not-off : (count : ℕ) → List Rule → List Order → Graph → Sample
 
 abbrev pub Claim : Sample → Type 0
 Claim (ran g rules orders held cut total) =
     Sound g × ((o : Order) → List·Memᴰ o held → Held g rules o) × ChosenCut g rules orders cut × (weight g cut ≡ total)
-Claim (asked g rules o route) = Sound g × Asked g rules o route
-Claim (off count orders g cut total) = StripTo count orders (written g cut) total g
-Claim (not-off count orders g) = (total : ℕ) (left : Graph) → ¬ StripTo count orders g total left
+Claim (asked g rules orders number route) = Sound g × Asked g rules (order orders number) route
+Claim (off count rules orders g cut total) = StripTo count orders (written g cut) total g
+Claim (not-off count rules orders g) = (total : ℕ) (left : Graph) → ¬ StripTo count orders g total left
 
 abbrev pub samples : List Sample
 samples =
@@ -72,10 +72,10 @@ samples =
     ∷ ran diamond D-rules (or 0 3 ∷ []) [] (0 ∷ 2 ∷ []) 2  -- P6
     ∷ ran loop fence-rules (or 0 2 ∷ []) [] (0 ∷ []) 1  -- P7
     ∷ ran no-graph fence-rules [] [] [] 0  -- P8
-    ∷ asked (D-of 3) D-rules (or 0 2) (0 ∷ 1 ∷ 2 ∷ [])  -- P9
-    ∷ asked (D-of 3) D-rules (or 0 1) []  -- P10
-    ∷ off 4 D-orders (D-of 3) (1 ∷ 2 ∷ []) 2  -- P11
-    ∷ not-off 3 D-orders (D-of 3)  -- P12
+    ∷ asked (D-of 3) D-rules D-orders 0 (0 ∷ 1 ∷ 2 ∷ [])  -- P9
+    ∷ asked (D-of 3) D-rules D-orders 2 []  -- P10
+    ∷ off 4 D-rules D-orders (D-of 3) (1 ∷ 2 ∷ []) 2  -- P11
+    ∷ not-off 3 D-rules D-orders (D-of 3)  -- P12
     ∷ []
 
 -- what the plausible wrong programs of document 01 get wrong, beside P4 (the third) and P1 (the fifth)
@@ -111,6 +111,7 @@ more-samples =
     ∷ asked
     (record { nodes = Store 1 ∷ Store 2 ∷ Store 3 ∷ Load 4 ∷ []; edges = ed 0 2 1 ∷ ed 2 3 1 ∷ ed 0 1 1 ∷ ed 1 3 1 ∷ [] })
     fence-rules
-    (or 0 3)
+    (or 0 3 ∷ [])
+    0
     (0 ∷ 1 ∷ 3 ∷ [])
     ∷ []

@@ -25,5 +25,6 @@ pub mod Clean
 pub mod Answered
 pub mod Filled
 pub mod Given
+pub mod Computed
 pub mod Samples
 pub mod Writing

@@ -1,55 +1,28 @@
--- Document 01's samples over bytes: what each of these files is read as.
+-- Document 01's files that are refused: what each is read as.
 -- Assumes nothing.
 use mathlib.Core.List.{List, [], _++_, _∷_, flatMap}
-use mathlib.Core.Path.{_≡_, refl}
-use Prim.Native.Nat.{suc, zero, ℕ}
-use native.Mathlib.Omega.{arith}
-use lib.Dec.{T, ltb, ltb→lt}
-use lib.ListN.{drop, length, replicate, take}
+use mathlib.Core.Path.{refl}
+use Prim.Native.Nat.{ℕ}
+use lib.ListN.{drop, replicate, take}
 use Rattle.graph.specs.declared.Label.the-variants.{Fence}
 use Rattle.graph.specs.declared.Order.{Order}
 use Rattle.graph.specs.declared.Rule.{Rule}
 use Rattle.request.specs.declared.Answer.the-variants.{BadOrder, NoFenceRules, TooMany, Unreadable}
-use Rattle.request.specs.declared.Reading.{Reading}
-use Rattle.request.specs.declared.Reading.the-variants.{Refused, Whole}
-use Rattle.graph.specs.Graph.{Graph, no-graph}
+use Rattle.request.specs.declared.Reading.the-variants.{Refused}
+use Rattle.graph.specs.Graph.{Graph}
 use Rattle.graph.specs.Samples.{D-of, D-orders, D-rules, fence-rules, or}
-use Rattle.request.specs.File.{Bytes, Request, bytes}
+use Rattle.request.specs.File.{Request, bytes}
 use Rattle.request.specs.Layout.{edgesIn, endCheck, limitsOf, nodesIn, ordersIn, recordAt, rulesIn, run}
 use Rattle.request.specs.Outcome.{Answered}
 use Rattle.request.specs.Pick.{any, earliestFrom}
-use Rattle.request.specs.Proper.{countsOf}
 use Rattle.request.specs.Tables.{badEdge, badLeft, badNode, badOrder, badRight, badRule, edgesFrom, fencesFrom, leads, listed, nodesFrom, ordersFrom, readingOf, repeated, rulesFrom, samePair}
-use Rattle.graph.proofs.Says.{both, everyb}
-use Rattle.request.proofs.Answered.{answered}
-
--- a list of bytes, by test
-bytes-tested : (s : List ℕ) → T (everyb (λ b. ltb b 256) s) → Bytes s
-bytes-tested [] t i = omega arith
-bytes-tested (b ∷ s) t zero = let h = (both (ltb b 256) (everyb (λ b. ltb b 256) s) t) .0 in ltb→lt b 256 h
-bytes-tested (b ∷ s) t (suc i) = bytes-tested s ((both (ltb b 256) (everyb (λ b. ltb b 256) s) t) .1) i
-
-read-as : (s : List ℕ) (r : Reading) → T (everyb (λ b. ltb b 256) s) → r ≡ readingOf s → Answered s r
-read-as s r t e = answered s r (bytes-tested s t) e
+use Rattle.request.proofs.Computed.{read-as}
 
 abbrev request : Graph → List Rule → List Order → Request
 request g rules orders = record { graph = g; rules = rules; orders = orders }
 
 abbrev D : Request
 D = request (D-of 3) D-rules D-orders
-
--- "no nodes, only the two fence rules"
-abbrev P8 : Request
-P8 = request no-graph fence-rules []
-
--- "The file has 84 bytes."; P8's has 14
-pub sample-lengths : (length (bytes D) ≡ 84) × (length (bytes P8) ≡ 14)
-unfolding bytes flatMap
-sample-lengths = (refl, refl)
-
-pub samples-read : Answered (bytes D) (Whole (countsOf D)) × Answered (bytes P8) (Whole (countsOf P8))
-unfolding bytes flatMap readingOf endCheck recordAt run nodesIn edgesIn rulesIn ordersIn limitsOf listed nodesFrom edgesFrom rulesFrom ordersFrom fencesFrom badNode badEdge samePair repeated badLeft badRight badRule badOrder leads earliestFrom any
-samples-read = (read-as (bytes D) (Whole (countsOf D)) tt refl, read-as (bytes P8) (Whole (countsOf P8)) tt refl)
 
 abbrev again : List ℕ
 again = bytes (request (D-of 3) D-rules (D-orders ++ (or 0 1 ∷ [])))
