@@ -1,8 +1,8 @@
 // Compares library and reference on generated files, group by group, and says how many groups passed.
 //
-//     compare            the gate's measure: 22,000 files, fixed seeds and one fresh one
-//     compare FACTOR     so many times as many files
-//     compare FACTOR SEED    the same, with this seed in place of the fresh one
+//     compare                the gate's measure: every tiny file, and 21,000 from two fixed seeds and a fresh one
+//     compare FACTOR         so many times as many files from seeds
+//     compare FACTOR SEED    the same, with this seed alone
 #include <algorithm>
 #include <chrono>
 #include <cstdio>
@@ -76,6 +76,30 @@ void compare_chain(Comparison &comparison, Random &random, Request request) {
     comparison.strip(file, first_nodes - std::min(1u, first_nodes), ample);
 }
 
+// Strip on what run wrote, touched afterwards.
+void compare_unfit(Comparison &comparison, Random &random) {
+    Request request = random.chance(80) ? generate::small(random) : generate::large(random);
+    const std::size_t nodes = request.nodes.size();
+    const Report report = run(written(request), ample);
+    if (report.answer == 0) request = read(report.out).request;
+    const Bytes file = written(generate::unfit(random, request));
+    for (Number count = nodes; count <= nodes + report.fences; ++count) comparison.strip(file, count, ample);
+}
+
+// Every graph of three nodes over a store, a load and a fence, self-edges and all, with all six orders: the file of this
+// number, from 0 to 512 * 27 - 1.
+Bytes tiny_file(unsigned number) {
+    const Node kinds[] = {{store, 1}, {load, 2}, {full_fence, 0}};
+    const unsigned edges = number % 512, labels = number / 512;
+    Request request;
+    request.nodes = {kinds[labels % 3], kinds[labels / 3 % 3], kinds[labels / 9]};
+    for (unsigned i = 0; i < 9; ++i)
+        if (edges >> i & 1) request.edges.push_back({i / 3, i % 3, 1 + (number + i) % 3});
+    request.rules = {{3, 0, 2, 0}, {2, 0, 3, 0}, {0, 1, 0, 2}, {1, 1, 0, 1}};
+    request.orders = {{0, 1}, {0, 2}, {1, 0}, {1, 2}, {2, 0}, {2, 1}};
+    return written(request);
+}
+
 void small_files(Comparison &comparison, Random &random) {
     compare_file(comparison, random, written(generate::small(random)));
 }
@@ -84,6 +108,9 @@ void large_files(Comparison &comparison, Random &random) {
 }
 void limit_files(Comparison &comparison, Random &random) {
     compare_file(comparison, random, written(generate::at_limits(random)));
+}
+void spoiled_files(Comparison &comparison, Random &random) {
+    compare_file(comparison, random, written(generate::spoiled(random, generate::small(random))));
 }
 void damaged_files(Comparison &comparison, Random &random) {
     compare_file(comparison, random, generate::damaged(random, written(generate::small(random))));
@@ -103,10 +130,15 @@ struct Group {
 };
 
 constexpr Group groups[] = {
-    {"small", small_files, 4000},    {"large", large_files, 300},
-    {"limits", limit_files, 100},    {"damaged", damaged_files, 4000},
-    {"damaged limits", damaged_limit_files, 200},
-    {"soup", soups, 1400},           {"chains", chains, 1000},
+    {"small", small_files, 2600},
+    {"large", large_files, 200},
+    {"limits", limit_files, 70},
+    {"spoiled", spoiled_files, 1200},
+    {"damaged", damaged_files, 1200},
+    {"damaged limits", damaged_limit_files, 130},
+    {"soup", soups, 400},
+    {"chains", chains, 500},
+    {"unfit", compare_unfit, 800},
 };
 
 struct Count {
@@ -114,19 +146,31 @@ struct Count {
     void add(bool good) { ++(good ? passed : failed); }
 };
 
+void finish(const std::string &name, unsigned files, const Comparison &comparison, Count &count) {
+    std::printf("compare %-14s %6u files, %7zu calls, %zu differences\n", name.c_str(), files, comparison.calls(),
+                comparison.differences());
+    std::fflush(stdout);
+    count.add(comparison.differences() == 0);
+}
+
 void compare_groups(std::uint64_t seed, unsigned factor, Count &count) {
+    std::printf("seed %llu\n", static_cast<unsigned long long>(seed));
     for (const Group &group : groups) {
         Random random(seed);
         Comparison comparison;
-        const auto start = std::chrono::steady_clock::now();
         for (unsigned i = 0; i < group.files * factor; ++i) group.compare(comparison, random);
-        const std::chrono::duration<double> took = std::chrono::steady_clock::now() - start;
-        std::printf("compare %-14s seed %llu: %u files, %zu calls, %zu differences, %.1f s\n", group.name,
-                    static_cast<unsigned long long>(seed), group.files * factor, comparison.calls(),
-                    comparison.differences(), took.count());
-        std::fflush(stdout);
-        count.add(comparison.differences() == 0);
+        finish(group.name, group.files * factor, comparison, count);
     }
+}
+
+void compare_tiny(Count &count) {
+    Comparison comparison;
+    const unsigned files = 512 * 27;
+    for (unsigned i = 0; i < files; ++i) {
+        comparison.run(tiny_file(i), ample);
+        comparison.ask(tiny_file(i), i % 6, 64);
+    }
+    finish("tiny", files, comparison, count);
 }
 
 // A group of its own: what is never reached is never compared.
@@ -151,11 +195,14 @@ bool every_answer_reached() {
 
 int main(int arguments, char **argument) {
     const unsigned factor = arguments > 1 ? std::max(1, std::atoi(argument[1])) : 1;
-    const std::uint64_t clock = std::chrono::system_clock::now().time_since_epoch().count();
-    const std::uint64_t fresh = arguments > 2 ? std::strtoull(argument[2], nullptr, 10) : clock / 1000;
+    std::vector<std::uint64_t> seeds{1, 2};
+    if (arguments > 2)
+        seeds = {std::strtoull(argument[2], nullptr, 10)};
+    else
+        seeds.push_back(static_cast<std::uint64_t>(std::chrono::system_clock::now().time_since_epoch().count()));
     Count count;
-    compare_groups(1, factor, count);
-    compare_groups(fresh, factor, count);
+    compare_tiny(count);
+    for (std::uint64_t seed : seeds) compare_groups(seed, factor, count);
     count.add(every_answer_reached());
     std::printf("%u groups passed, %u failed\n", count.passed, count.failed);
     return count.failed == 0 ? 0 : 1;

@@ -41,11 +41,13 @@ counted() {
 }
 
 counted '\| +([0-9]+) passed \| +([0-9]+) failed' "$build/tests" --no-colors=true
-if [ "$("${emulator[@]}" "$build/example")" = "2 fences of weight 2, 108 bytes" ]; then
-    passed=$((passed + 1))
-else
-    echo "the example in fence.h prints something else"; failed=$((failed + 1))
-fi
+for example in example_c example_cpp; do
+    if [ "$("${emulator[@]}" "$build/$example")" = "2 fences of weight 2, 108 bytes" ]; then
+        passed=$((passed + 1))
+    else
+        echo "$example, as the manual has it, prints something else"; failed=$((failed + 1))
+    fi
+done
 counted '([0-9]+) groups passed, ([0-9]+) failed' "$build/compare" "$factor"
 
 printf '%d passed, %d failed\n' "$passed" "$failed"

@@ -1,7 +1,9 @@
 // Lent buffers of every interesting length. library.cpp checks the guard entries and all that must keep its value.
 #include <doctest/doctest.h>
 
+#include <atomic>
 #include <cstring>
+#include <thread>
 
 #include "fence.h"
 #include "lent.hpp"
@@ -86,4 +88,19 @@ TEST_CASE("calls leave nothing behind: the same call gives the same, whatever ca
     const Report again = library::run(d, ample);
     CHECK(again.out == first.out);
     CHECK(again.weight == first.weight);
+}
+
+TEST_CASE("calls from several threads at once") {
+    std::atomic<unsigned> wrong{0};
+    const auto work = [&wrong] {
+        for (unsigned i = 0; i < 200; ++i) {
+            std::uint8_t out[FENCE_MAX_FILE];
+            const fence_report report = fence_run(d.data(), d.size(), out, sizeof out);
+            if (Bytes(out, out + report.length) != fenced) ++wrong;
+        }
+    };
+    std::vector<std::thread> threads;
+    for (unsigned i = 0; i < 4; ++i) threads.emplace_back(work);
+    for (std::thread &thread : threads) thread.join();
+    CHECK(wrong == 0);
 }

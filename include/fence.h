@@ -43,8 +43,8 @@
  *   Refusals  A refusal has an answer other than 0. It writes nothing, and every number beside answer
  *             and place is 0.
  *   Buffers   What lies in the lent buffer past the length written keeps its value.
- *   Time      Both searches are exact, so the worst case grows exponentially with the graph. On the
- *             procedures of the benchmark a call takes well under a millisecond; docs/ has figures.
+ *   Time      Every call ends. The searches of run and ask are exact, so the worst case grows exponentially
+ *             with the graph; bench/TIMES.md has figures for graphs of real procedures.
  *
  * The request file. Numbers are little-endian; every record starts with a two-byte mark. Records stand
  * in the order of this table, as many of each as wished, and one EN ends the file.

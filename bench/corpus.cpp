@@ -1,0 +1,79 @@
+// Instances out of shapes: orders, weights and rules.
+#include "corpus.hpp"
+
+#include <algorithm>
+#include <set>
+
+#include "shapes.hpp"
+
+namespace corpus {
+namespace {
+
+using namespace reference;
+
+const std::vector<Rule> total_store_order = {{3, 0, 2, 0}, {2, 0, 3, 0}, {0, 1, 0, 2}, {1, 1, 1, 2}, {1, 1, 0, 2}, {0, 1, 1, 1}};
+const std::vector<Rule> one_address = {{3, 0, 2, 0}, {2, 0, 3, 0}, {0, 1, 0, 1}, {1, 1, 1, 1}, {1, 1, 0, 1}};
+
+const char *const weight_names[] = {"equal", "by depth", "random"};
+
+std::vector<Edge> weighed(Random &random, const Shape &shape, unsigned weights) {
+    std::vector<Edge> edges;
+    for (auto [from, to] : shape.edges) {
+        unsigned depth = std::min(shape.depth[from], shape.depth[to]), weight = 1;
+        for (; weights == 1 && depth > 0; --depth) weight *= 8;
+        if (weights == 2) weight = random.between(1, 100);
+        edges.push_back({from, to, std::min(weight, 65535u)});
+    }
+    return edges;
+}
+
+bool reaches(const Shape &shape, unsigned from, unsigned to) {
+    std::set<unsigned> seen{from};
+    for (bool grown = true; grown;) {
+        grown = false;
+        for (auto [a, b] : shape.edges)
+            if (seen.count(a) && seen.insert(b).second) grown = true;
+    }
+    return seen.count(to) != 0;
+}
+
+// The shape's own orders first, then pairs that some route joins.
+std::vector<Order> asked(Random &random, const Shape &shape, unsigned count) {
+    std::set<std::pair<unsigned, unsigned>> pairs;
+    std::vector<Order> orders;
+    const auto add = [&](unsigned first, unsigned second) {
+        if (orders.size() < count && first != second && pairs.insert({first, second}).second) orders.push_back({first, second});
+    };
+    for (auto [first, second] : shape.orders) add(first, second);
+    const unsigned nodes = static_cast<unsigned>(shape.nodes.size());
+    for (unsigned tries = 0; tries < 20 * count && orders.size() < count; ++tries) {
+        const unsigned first = random.below(nodes), second = random.below(nodes);
+        if (reaches(shape, first, second)) add(first, second);
+    }
+    return orders;
+}
+
+}  // namespace
+
+std::vector<Instance> instances(std::uint64_t seed) {
+    static const unsigned sizes[] = {8, 16, 24, 32, 40, 48, 56, 62}, counts[] = {1, 2, 4, 8, 16, 32};
+    std::vector<Instance> all;
+    Random random(seed);
+    for (const Family &family : families()) {
+        for (unsigned size : sizes) {
+            for (unsigned i = 0; i < 6; ++i) {
+                Builder builder(random, size);
+                family.build(builder);
+                const Shape shape = builder.shape();
+                const unsigned weights = i % 3;
+                const std::vector<Rule> &rules = random.chance(50) ? total_store_order : one_address;
+                const std::vector<Edge> edges = weighed(random, shape, weights);
+                all.push_back({family.name, weight_names[weights],
+                               {shape.nodes, edges, rules, asked(random, shape, counts[random.below(6)])}});
+            }
+        }
+    }
+    return all;
+}
+
+}  // namespace corpus

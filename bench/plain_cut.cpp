@@ -1,0 +1,171 @@
+// The chosen cut in two phases: the least weight, by branching on a route's edges under a bound from packed routes; then
+// the list, edge by edge.
+#include <algorithm>
+
+#include "plain.hpp"
+
+namespace plain {
+namespace {
+
+struct Path {
+    unsigned length = 0;
+    std::uint8_t edges[most_nodes];
+};
+
+struct Bound {
+    std::uint64_t total = 0;
+    std::uint16_t left[most_edges];  // of each edge's weight
+    Path first;                      // the first route packed; none where nothing is left to cut
+};
+
+struct Found {
+    bool found = false;
+    Cut cut;
+};
+
+// The edges at each node, in rising order.
+class Lists {
+public:
+    void count(unsigned node) {
+        for (unsigned n = node + 1; n <= most_nodes; ++n) ++start_[n];
+    }
+    void add(unsigned node, unsigned edge) { edges_[start_[node] + filled_[node]++] = static_cast<std::uint8_t>(edge); }
+
+    const std::uint8_t *begin(unsigned node) const { return edges_ + start_[node]; }
+    const std::uint8_t *end(unsigned node) const { return edges_ + start_[node + 1]; }
+
+private:
+    unsigned start_[most_nodes + 1] = {}, filled_[most_nodes] = {};
+    std::uint8_t edges_[most_edges];
+};
+
+class Search {
+public:
+    Search(const Graph &graph, std::uint32_t open) : graph_(graph) {
+        for (unsigned i = 0; i < graph.edge_count; ++i) {
+            out_.count(graph.edges[i].from);
+            in_.count(graph.edges[i].to);
+        }
+        for (unsigned i = 0; i < graph.edge_count; ++i) {
+            out_.add(graph.edges[i].from, i);
+            in_.add(graph.edges[i].to, i);
+        }
+        sort_by_distance(open);
+    }
+
+    Cut chosen() const {
+        std::uint64_t all = 0;
+        for (unsigned i = 0; i < graph_.edge_count; ++i) all += graph_.edges[i].weight;
+        Cut best = least({}, all).cut;
+        const Bound whole = bound({}, best.weight);
+        const std::uint64_t gap = best.weight - whole.total;
+        Cut kept;
+        std::uint64_t rest = best.weight;
+        for (unsigned e = 0; e < graph_.edge_count && rest > 0; ++e) {
+            const unsigned weight = graph_.edges[e].weight;
+            if (!best.edges[e]) {
+                if (weight > rest || whole.left[e] > gap) continue;  // with such an edge a cut is heavier
+                const Found other = least(kept.with(e, weight), rest - weight);
+                if (!other.found) continue;
+                best = other.cut;
+            }
+            kept = kept.with(e, weight);
+            rest -= weight;
+        }
+        return kept;
+    }
+
+private:
+    // A route with the fewest edges among those with something left, of several the one with the lowest edge at each node;
+    // length 0 where there is none.
+    Path route(const Order &order, const std::uint16_t *left) const {
+        std::uint8_t distance[most_nodes], queue[most_nodes];
+        std::fill(distance, distance + graph_.node_count, none);
+        unsigned head = 0, tail = 0;
+        distance[order.second] = 0;
+        queue[tail++] = static_cast<std::uint8_t>(order.second);
+        while (head < tail && distance[order.first] == none) {
+            const unsigned node = queue[head++];
+            for (const std::uint8_t *e = in_.begin(node); e != in_.end(node); ++e) {
+                const unsigned from = graph_.edges[*e].from;
+                if (left[*e] == 0 || distance[from] != none) continue;
+                distance[from] = static_cast<std::uint8_t>(distance[node] + 1);
+                queue[tail++] = static_cast<std::uint8_t>(from);
+            }
+        }
+        Path path;
+        if (distance[order.first] == none) return path;
+        for (unsigned node = order.first; node != order.second; node = graph_.edges[path.edges[path.length - 1]].to) {
+            const std::uint8_t *e = out_.begin(node);
+            while (left[*e] == 0 || distance[graph_.edges[*e].to] != distance[node] - 1) ++e;
+            path.edges[path.length++] = *e;
+        }
+        return path;
+    }
+
+    // Short orders first: they leave the bound the fewest edges to choose from.
+    void sort_by_distance(std::uint32_t open) {
+        unsigned distance[most_orders];
+        std::uint16_t left[most_edges];
+        std::fill(left, left + graph_.edge_count, std::uint16_t{1});
+        for (unsigned i = 0; i < graph_.order_count; ++i) {
+            if (!(open >> i & 1)) continue;
+            distance[i] = route(graph_.orders[i], left).length;
+            near_[near_count_++] = i;
+        }
+        std::stable_sort(near_, near_ + near_count_, [&](unsigned a, unsigned b) { return distance[a] < distance[b]; });
+    }
+
+    // What any cut must still spend: routes are packed as long as no edge bears more than its weight.
+    Bound bound(const Cut &cut, std::uint64_t allowance) const {
+        Bound result;
+        std::uint16_t *left = result.left;
+        for (unsigned i = 0; i < graph_.edge_count; ++i) left[i] = cut.edges[i] ? 0 : graph_.edges[i].weight;
+        for (unsigned i = 0; i < near_count_; ++i) {
+            const Order &order = graph_.orders[near_[i]];
+            for (Path path = route(order, left); path.length > 0; path = route(order, left)) {
+                if (result.first.length == 0) result.first = path;
+                std::uint16_t pays = 65535;
+                for (unsigned p = 0; p < path.length; ++p) pays = std::min(pays, left[path.edges[p]]);
+                for (unsigned p = 0; p < path.length; ++p) left[path.edges[p]] -= pays;
+                result.total += pays;
+                if (result.total > allowance) return result;
+            }
+        }
+        return result;
+    }
+
+    // The lightest cut that contains this one and costs at most so much more.
+    Found least(const Cut &cut, std::uint64_t allowance) const {
+        const Bound lower = bound(cut, allowance);
+        Found best;
+        if (lower.total > allowance) return best;
+        if (lower.first.length == 0) return {true, cut};
+        std::uint64_t rest = allowance;
+        for (unsigned p = 0; p < lower.first.length; ++p) {
+            const unsigned edge = lower.first.edges[p], weight = graph_.edges[edge].weight;
+            if (weight > rest) continue;
+            const Found other = least(cut.with(edge, weight), rest - weight);
+            if (!other.found) continue;
+            best = other;
+            const std::uint64_t spent = other.cut.weight - cut.weight;
+            if (spent == lower.total) return best;
+            rest = spent - 1;
+        }
+        return best;
+    }
+
+    static constexpr std::uint8_t none = 255;
+    const Graph &graph_;
+    Lists out_, in_;
+    unsigned near_[most_orders], near_count_ = 0;
+};
+
+}  // namespace
+
+Cut chosen(const Graph &graph, std::uint32_t open) {
+    if (open == 0) return {};
+    return Search(graph, open).chosen();
+}
+
+}  // namespace plain
