@@ -11,7 +11,8 @@ namespace {
 
 using namespace reference;
 
-const std::vector<Rule> total_store_order = {{3, 0, 2, 0}, {2, 0, 3, 0}, {0, 1, 0, 2}, {1, 1, 1, 2}, {1, 1, 0, 2}, {0, 1, 1, 1}};
+const std::vector<Rule> total_store_order = {{3, 0, 2, 0}, {2, 0, 3, 0}, {0, 1, 0, 2},
+                                             {1, 1, 1, 2}, {1, 1, 0, 2}, {0, 1, 1, 1}};
 const std::vector<Rule> one_address = {{3, 0, 2, 0}, {2, 0, 3, 0}, {0, 1, 0, 1}, {1, 1, 1, 1}, {1, 1, 0, 1}};
 
 const char *const weight_names[] = {"equal", "by depth", "random"};
@@ -42,7 +43,8 @@ std::vector<Order> asked(Random &random, const Shape &shape, unsigned count) {
     std::set<std::pair<unsigned, unsigned>> pairs;
     std::vector<Order> orders;
     const auto add = [&](unsigned first, unsigned second) {
-        if (orders.size() < count && first != second && pairs.insert({first, second}).second) orders.push_back({first, second});
+        if (orders.size() < count && first != second && pairs.insert({first, second}).second)
+            orders.push_back({first, second});
     };
     for (auto [first, second] : shape.orders) add(first, second);
     const unsigned nodes = static_cast<unsigned>(shape.nodes.size());
@@ -68,7 +70,8 @@ std::vector<Instance> instances(std::uint64_t seed) {
                 const unsigned weights = i % 3;
                 const std::vector<Rule> &rules = random.chance(50) ? total_store_order : one_address;
                 const std::vector<Edge> edges = weighed(random, shape, weights);
-                all.push_back({family.name, weight_names[weights],
+                all.push_back({family.name,
+                               weight_names[weights],
                                {shape.nodes, edges, rules, asked(random, shape, counts[random.below(6)])}});
             }
         }

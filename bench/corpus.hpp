@@ -1,4 +1,4 @@
-// Request files like those of real procedures, made from a seed: families of shapes, sizes, numbers of orders, weights.
+// Requests like those of real procedures, made from a seed: families of shapes, sizes, numbers of orders, weights.
 #ifndef CORPUS_HPP
 #define CORPUS_HPP
 

@@ -1,5 +1,5 @@
-// Times run of the library and of the plain version on the corpus, a line for each instance, and writes each instance's
-// cut as an integer program for the solvers.
+// Times run of the library and of the plain version on the corpus, a line for each instance, and writes each
+// instance's cut as an integer program for the solvers.
 //
 //     measure SEED FOLDER      results on standard output; FOLDER/N.lp for each instance with an open order
 #include <algorithm>
@@ -47,19 +47,25 @@ int main(int arguments, char **argument) {
     std::printf("number,family,weights,nodes,edges,orders,open,answer,weight,library,plain\n");
     for (std::size_t i = 0; i < all.size(); ++i) {
         const reference::Bytes file = reference::written(all[i].request);
-        const Call library = [&](std::uint8_t *out) { return fence_run(file.data(), file.size(), out, FENCE_MAX_FILE); };
-        const Call plain = [&](std::uint8_t *out) { return plain::run(file.data(), file.size(), out, FENCE_MAX_FILE); };
+        const Call library = [&](std::uint8_t *out) {
+            return fence_run(file.data(), file.size(), out, FENCE_MAX_FILE);
+        };
+        const Call plain = [&](std::uint8_t *out) {
+            return plain::run(file.data(), file.size(), out, FENCE_MAX_FILE);
+        };
         std::uint8_t ours[FENCE_MAX_FILE], theirs[FENCE_MAX_FILE];
         const fence_report report = library(ours), other = plain(theirs);
         if (!same(report, other) || std::memcmp(ours, theirs, report.length) != 0) {
             std::fprintf(stderr, "instance %zu: library and plain version differ\n", i);
             return 1;
         }
-        const program::Written written = program::write(file, std::string(argument[2]) + "/" + std::to_string(i) + ".lp");
+        const program::Written written =
+            program::write(file, std::string(argument[2]) + "/" + std::to_string(i) + ".lp");
         const reference::Request &r = all[i].request;
-        std::printf("%zu,%s,%s,%zu,%zu,%zu,%u,%d,%llu,%.0f,%.0f\n", i, all[i].family.c_str(), all[i].weights.c_str(),
-                    r.nodes.size(), r.edges.size(), r.orders.size(), written.open, static_cast<int>(report.answer),
-                    static_cast<unsigned long long>(written.weight), median_time(library), median_time(plain));
+        std::printf("%zu,%s,%s,%zu,%zu,%zu,%u,%d,%llu,%.0f,%.0f\n", i, all[i].family.c_str(),
+                    all[i].weights.c_str(), r.nodes.size(), r.edges.size(), r.orders.size(), written.open,
+                    static_cast<int>(report.answer), static_cast<unsigned long long>(written.weight),
+                    median_time(library), median_time(plain));
         std::fflush(stdout);
     }
     return 0;

@@ -7,8 +7,14 @@ namespace plain {
 namespace {
 
 std::uint8_t *put_edge(std::uint8_t *at, unsigned from, unsigned to, unsigned weight) {
-    const std::uint8_t record[] = {'E', 'D', std::uint8_t(from), std::uint8_t(from >> 8), std::uint8_t(to),
-                                   std::uint8_t(to >> 8), std::uint8_t(weight), std::uint8_t(weight >> 8)};
+    const std::uint8_t record[] = {'E',
+                                   'D',
+                                   std::uint8_t(from),
+                                   std::uint8_t(from >> 8),
+                                   std::uint8_t(to),
+                                   std::uint8_t(to >> 8),
+                                   std::uint8_t(weight),
+                                   std::uint8_t(weight >> 8)};
     std::memcpy(at, record, sizeof record);
     return at + sizeof record;
 }
@@ -21,7 +27,8 @@ std::uint8_t *copy(std::uint8_t *at, const std::uint8_t *from, std::size_t bytes
 void write(const std::uint8_t *file, std::size_t length, const Graph &g, const Cut &cut, std::uint8_t *out) {
     const std::size_t nodes = 4 * g.node_count, edges = 8 * g.edge_count;
     out = copy(out, file, nodes);
-    for (std::size_t i = cut.edges.count(); i > 0; --i) out = copy(out, reinterpret_cast<const std::uint8_t *>("ND\2"), 4);
+    for (std::size_t i = cut.edges.count(); i > 0; --i)
+        out = copy(out, reinterpret_cast<const std::uint8_t *>("ND\2"), 4);
     unsigned fence = g.node_count;
     for (unsigned i = 0; i < g.edge_count; ++i)
         out = put_edge(out, g.edges[i].from, cut.edges[i] ? fence++ : g.edges[i].to, g.edges[i].weight);

@@ -1,4 +1,4 @@
-// Run as a plain C++ program: the library's algorithm without its proofs, to compare times with. Read, walk, cut, write.
+// Run as a plain C++ program: the library's algorithm without its proofs, to compare times with.
 #ifndef PLAIN_HPP
 #define PLAIN_HPP
 
@@ -12,10 +12,18 @@ namespace plain {
 
 constexpr unsigned most_nodes = 64, most_edges = 192, most_rules = 32, most_orders = 32;
 
-struct Node { std::uint8_t kind, address; };
-struct Edge { std::uint16_t from, to, weight; };
-struct Rule { std::uint8_t left_kind, left_variable, right_kind, right_variable; };
-struct Order { std::uint16_t first, second; };
+struct Node {
+    std::uint8_t kind, address;
+};
+struct Edge {
+    std::uint16_t from, to, weight;
+};
+struct Rule {
+    std::uint8_t left_kind, left_variable, right_kind, right_variable;
+};
+struct Order {
+    std::uint16_t first, second;
+};
 
 struct Graph {
     Node nodes[most_nodes];
@@ -25,7 +33,9 @@ struct Graph {
     unsigned node_count = 0, edge_count = 0, rule_count = 0, order_count = 0;
 };
 
-struct Refusal { std::uint64_t answer, place; };
+struct Refusal {
+    std::uint64_t answer, place;
+};
 
 // plain_read.cpp: answers 1 to 7, or 0 and the graph.
 Refusal read(const std::uint8_t *file, std::size_t length, Graph &graph);

@@ -1,5 +1,5 @@
-// The chosen cut in two phases: the least weight, by branching on a route's edges under a bound from packed routes; then
-// the list, edge by edge.
+// The chosen cut in two phases: the least weight, by branching on a route's edges under a bound from packed routes;
+// then the list, edge by edge.
 #include <algorithm>
 
 #include "plain.hpp"
@@ -29,7 +29,9 @@ public:
     void count(unsigned node) {
         for (unsigned n = node + 1; n <= most_nodes; ++n) ++start_[n];
     }
-    void add(unsigned node, unsigned edge) { edges_[start_[node] + filled_[node]++] = static_cast<std::uint8_t>(edge); }
+    void add(unsigned node, unsigned edge) {
+        edges_[start_[node] + filled_[node]++] = static_cast<std::uint8_t>(edge);
+    }
 
     const std::uint8_t *begin(unsigned node) const { return edges_ + start_[node]; }
     const std::uint8_t *end(unsigned node) const { return edges_ + start_[node + 1]; }
@@ -76,8 +78,8 @@ public:
     }
 
 private:
-    // A route with the fewest edges among those with something left, of several the one with the lowest edge at each node;
-    // length 0 where there is none.
+    // A route with the fewest edges among those with something left, of several the one with the lowest edge at
+    // each node; length 0 where there is none.
     Path route(const Order &order, const std::uint16_t *left) const {
         std::uint8_t distance[most_nodes], queue[most_nodes];
         std::fill(distance, distance + graph_.node_count, none);
@@ -95,7 +97,8 @@ private:
         }
         Path path;
         if (distance[order.first] == none) return path;
-        for (unsigned node = order.first; node != order.second; node = graph_.edges[path.edges[path.length - 1]].to) {
+        for (unsigned node = order.first; node != order.second;
+             node = graph_.edges[path.edges[path.length - 1]].to) {
             const std::uint8_t *e = out_.begin(node);
             while (left[*e] == 0 || distance[graph_.edges[*e].to] != distance[node] - 1) ++e;
             path.edges[path.length++] = *e;
@@ -113,7 +116,8 @@ private:
             distance[i] = route(graph_.orders[i], left).length;
             near_[near_count_++] = i;
         }
-        std::stable_sort(near_, near_ + near_count_, [&](unsigned a, unsigned b) { return distance[a] < distance[b]; });
+        std::stable_sort(near_, near_ + near_count_,
+                         [&](unsigned a, unsigned b) { return distance[a] < distance[b]; });
     }
 
     // What any cut must still spend: routes are packed as long as no edge bears more than its weight.

@@ -1,5 +1,5 @@
-// Which orders are open: a walk over routes that carries, besides the nodes visited, those that would be ordered after
-// the first, and turns back where no unordered route can come of it.
+// Which orders are open: a walk over routes that carries, besides the nodes visited, those that would be ordered
+// after the first, and turns back where no unordered route can come of it.
 #include "plain.hpp"
 
 namespace plain {

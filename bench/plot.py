@@ -34,7 +34,6 @@ def axes(x, y, powers, most):
     for nodes in range(0, most + 1, 8):
         parts.append(text(x(nodes), HEIGHT - BOTTOM + 18, nodes))
     parts.append(text((LEFT + WIDTH - RIGHT) / 2, HEIGHT - 10, "nodes of the graph"))
-    parts.append(text(LEFT, TOP - 12, "time of one run (solvers: one process)", "start"))
     return parts
 
 
@@ -59,10 +58,12 @@ def legend(names_at):
     return parts
 
 
-def plot(rows):
+def plot(rows, note):
     x, y, powers, most = scales(rows)
-    parts = [f'<svg xmlns="http://www.w3.org/2000/svg" viewBox="0 0 {WIDTH} {HEIGHT}" font-family="sans-serif" font-size="12">',
-             f'<rect width="{WIDTH}" height="{HEIGHT}" fill="white"/>']
+    parts = [f'<svg xmlns="http://www.w3.org/2000/svg" viewBox="0 0 {WIDTH} {HEIGHT}" '
+             'font-family="sans-serif" font-size="12">',
+             f'<rect width="{WIDTH}" height="{HEIGHT}" fill="white"/>',
+             text(LEFT, TOP - 12, f"time of one run (solvers: one process){note}", "start")]
     parts += axes(x, y, powers, most)
     names_at = []
     for name, colour in SERIES:

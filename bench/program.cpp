@@ -1,5 +1,5 @@
-// See program.hpp. A variable x for each edge, 1 if it is cut; for each open order a height for each node, 0 at its first
-// and 1 at its second, that rises along an edge by at most the edge's x.
+// See program.hpp. A variable x for each edge, 1 if it is cut; for each open order a height for each node, 0 at its
+// first and 1 at its second, that rises along an edge by at most the edge's x.
 #include "program.hpp"
 
 #include <cstdio>
@@ -17,7 +17,8 @@ Nodes closure(const plain::Graph &g, unsigned start, bool forward) {
     for (bool grown = true; grown;) {
         grown = false;
         for (unsigned i = 0; i < g.edge_count; ++i) {
-            const unsigned from = forward ? g.edges[i].from : g.edges[i].to, to = forward ? g.edges[i].to : g.edges[i].from;
+            const unsigned from = forward ? g.edges[i].from : g.edges[i].to,
+                           to = forward ? g.edges[i].to : g.edges[i].from;
             if (seen.count(from) && seen.insert(to).second) grown = true;
         }
     }

@@ -97,8 +97,8 @@ def table(rows, base, where):
     text = ["# Times of run", "", "Made by `bench/run.sh`, from one run. Times are in milliseconds for one call.", ""]
     text += [where, "",
              "The solvers get the same cut as an integer program, find its weight only (no tie rule), and are timed as",
-             f"processes; starting one costs {milliseconds(base['glpsol'])} ms (glpsol) and {milliseconds(base['cbc'])} ms (cbc)"
-             " of that.", ""]
+             f"processes; starting one costs {milliseconds(base['glpsol'])} ms (glpsol) and "
+             f"{milliseconds(base['cbc'])} ms (cbc) of that.", ""]
     text += head + [line(name, group) for name, group in groups(rows, "family")] + [line("all", rows)]
     text += [""] + [head[0].replace("family", "weights", 1), head[1]]
     text += [line(name, group) for name, group in groups(rows, "weights")]
@@ -120,7 +120,7 @@ def main():
     with open(table_path, "w") as out:
         out.write(text)
     with open(plot_path, "w") as out:
-        out.write(plot(rows))
+        out.write(plot(rows, "; library and plain under an emulator" if "emulator" in where else ""))
 
 
 if __name__ == "__main__":

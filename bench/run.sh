@@ -1,6 +1,6 @@
 #!/usr/bin/env bash
-# Times the library against a plain C++ version of its algorithm and against two integer-program solvers, on a corpus made
-# from a seed. Writes bench/TIMES.md and bench/times.svg.
+# Times the library against a plain C++ version of its algorithm and against two integer-program solvers, on a corpus
+# made from a seed. Writes bench/TIMES.md and bench/times.svg.
 #
 #     bench/run.sh [SEED]
 set -eu -o pipefail
@@ -23,9 +23,9 @@ $cxx -std=c++17 -O3 -DNDEBUG -Wall -Wextra -I ../include -I "$host" -o "$build/m
 if [ ${#emulator[@]} -eq 0 ]; then
     where="Library, plain version and solvers ran directly on $(uname -m)."
 else
-    where="This machine is $(uname -m): library and plain version, both x86-64 code, ran under an emulator (${emulator[0]}), the
-solvers directly. So the ratio of library to plain version counts; the library's own times are too long, and the solvers'
-ratios too small, by the emulator's factor."
+    where="This machine is $(uname -m): library and plain version, both x86-64 code, ran under an emulator
+(${emulator[0]}), the solvers directly. So the ratio of library to plain version counts; the library's own times are
+too long, and the solvers' ratios too small, by the emulator's factor."
 fi
 
 "${emulator[@]}" "$build/measure" "$seed" "$build/programs" >"$build/results.csv"

@@ -94,7 +94,7 @@ void structured(Builder &b) {
     while (!b.full()) statement(b, 0);
 }
 
-// A transaction: take locks, read the clock, validate, mark as committed, write back, release. Accesses for each entry.
+// A transaction: take locks, read the clock, validate, mark as committed, write back, release.
 void commit(Builder &b) {
     const unsigned lock = 1, clock = 2, status = 3, log = 4, data = 5;
     while (!b.full()) {

@@ -14,15 +14,16 @@ using reference::Shown;
 namespace {
 
 std::string text(const Report &r) {
-    std::string s = std::to_string(r.answer) + " " + std::to_string(r.place) + " " + std::to_string(r.fences) + " " +
-                    std::to_string(r.weight) + " " + std::to_string(r.out.size()) + ":";
+    std::string s = std::to_string(r.answer) + " " + std::to_string(r.place) + " " + std::to_string(r.fences) +
+                    " " + std::to_string(r.weight) + " " + std::to_string(r.out.size()) + ":";
     static const char digits[] = "0123456789abcdef";
     for (std::uint8_t byte : r.out) s += digits[byte / 16], s += digits[byte % 16];
     return s;
 }
 
 std::string text(const Shown &s) {
-    std::string all = std::to_string(s.answer) + " " + std::to_string(s.place) + " " + std::to_string(s.route.size()) + ":";
+    std::string all =
+        std::to_string(s.answer) + " " + std::to_string(s.place) + " " + std::to_string(s.route.size()) + ":";
     for (unsigned node : s.route) all += " " + std::to_string(node);
     return all;
 }
@@ -42,7 +43,8 @@ Report library_run(const Bytes &file, Number, std::size_t room) { return library
 
 void print_difference(const char *operation, const Bytes &file, Number argument, std::size_t room,
                       const std::string &expected, const std::string &got) {
-    std::printf("DIFFERENCE %s argument %llu room %zu file ", operation, static_cast<unsigned long long>(argument), room);
+    std::printf("DIFFERENCE %s argument %llu room %zu file ", operation, static_cast<unsigned long long>(argument),
+                room);
     for (std::uint8_t byte : file) std::printf("%02x", byte);
     std::printf("\n  reference %s\n  library   %s\n", expected.c_str(), got.c_str());
 }

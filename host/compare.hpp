@@ -18,7 +18,9 @@ public:
     std::size_t differences() const { return differences_; }
 
     // How often an answer was given, over all comparisons of this process.
-    static std::size_t reached(Operation operation, reference::Number answer) { return reached_[operation][answer]; }
+    static std::size_t reached(Operation operation, reference::Number answer) {
+        return reached_[operation][answer];
+    }
 
 private:
     template <class Outcome>

@@ -34,7 +34,8 @@ std::vector<Rule> rules(Random &random) {
     if (random.chance(50)) {
         rules = rule_sets[random.below(rule_sets.size())];
     } else {
-        for (unsigned i = random.below(5); i > 0; --i) rules.push_back(legal_rules()[random.below(legal_rules().size())]);
+        for (unsigned i = random.below(5); i > 0; --i)
+            rules.push_back(legal_rules()[random.below(legal_rules().size())]);
     }
     if (!random.chance(2)) rules.push_back({wildcard, 0, full_fence, 0});
     if (!random.chance(2)) rules.push_back({full_fence, 0, wildcard, 0});
@@ -93,12 +94,17 @@ Pairs ladder(Random &random, unsigned n) {
     return pairs;
 }
 
-// A line with edges back and self-edges: loops, but one route only between any two nodes.
+// A line with loops: self-edges and edges back inside blocks of four nodes, and three edges back over any distance.
+// So there are few ways to go back, and few routes to enumerate.
 Pairs looped(Random &random, unsigned n) {
     Pairs pairs = straight(n);
     for (unsigned i = random.below(n); i > 0; --i) {
         const unsigned from = random.below(n);
-        pairs.insert({from, from - std::min(from, random.below(4))});
+        pairs.insert({from, from - random.below(from % 4 + 1)});
+    }
+    for (unsigned i = random.below(4); i > 0; --i) {
+        const unsigned from = random.below(n);
+        pairs.insert({from, random.below(from + 1)});
     }
     return pairs;
 }
@@ -136,7 +142,8 @@ std::vector<Order> orders(Random &random, unsigned nodes, unsigned most) {
 Request small(Random &random) {
     const unsigned n = random.below(9);
     Pairs pairs = random.chance(60) ? straight(n) : Pairs{};
-    for (unsigned i = n == 0 ? 0 : random.below(2 * n + 1); i > 0; --i) pairs.insert({random.below(n), random.below(n)});
+    for (unsigned i = n == 0 ? 0 : random.below(2 * n + 1); i > 0; --i)
+        pairs.insert({random.below(n), random.below(n)});
     return {nodes(random, n), edges_of(random, pairs), rules(random), orders(random, n, 6)};
 }
 
@@ -151,7 +158,7 @@ Request at_limits(Random &random) {
     const unsigned n = random.chance(60) ? near(most_nodes) : random.between(50, 62);
     Pairs pairs = straight(n);
     const std::size_t edges = random.chance(60) ? near(most_edges) : random.between(n, 185);
-    // Self-edges, steps back and jumps to the start: no second route between nodes in rising order, and few dead ends.
+    // Self-edges, steps back and jumps to the start: no second route between nodes in rising order.
     for (unsigned i = 0; pairs.size() < edges; ++i) {
         const unsigned from = i % n;
         pairs.insert({from, i < n ? from : i < 2 * n ? from - std::min(from, 1u) : 0});

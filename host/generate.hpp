@@ -37,7 +37,8 @@ Request at_limits(Random &random);
 // A request with one or two faults just beyond what is allowed: answers 3 to 6, each in each way.
 Request spoiled(Random &random, Request request);
 
-// A request with added fences, touched so that strip may miss one: a weight, an edge more, edges exchanged, another kind.
+// A request with added fences, touched so that strip may refuse it: a weight, an edge more, edges exchanged, a
+// kind.
 Request unfit(Random &random, Request request);
 
 // A file spoiled in one to three ways: cut off, bytes changed, records moved, doubled, dropped or put in.

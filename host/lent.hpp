@@ -24,7 +24,8 @@ public:
         if (length > entries_) throw std::logic_error("the length written is above the buffer's");
         for (std::size_t i = 0; i < all_.size(); ++i) {
             const bool may_change = i >= guard && i < guard + length;
-            if (!may_change && all_[i] != pattern(i)) throw std::logic_error("an entry changed that must keep its value");
+            if (!may_change && all_[i] != pattern(i))
+                throw std::logic_error("an entry changed that must keep its value");
         }
         return {all_.begin() + guard, all_.begin() + guard + length};
     }

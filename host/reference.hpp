@@ -16,10 +16,18 @@ enum Kind : unsigned { store = 0, load = 1, full_fence = 2, wildcard = 3 };
 
 constexpr std::size_t most_nodes = 64, most_edges = 192, most_rules = 32, most_orders = 32;
 
-struct Node { unsigned kind, address; };
-struct Edge { unsigned from, to, weight; };
-struct Rule { unsigned left_kind, left_variable, right_kind, right_variable; };
-struct Order { unsigned first, second; };
+struct Node {
+    unsigned kind, address;
+};
+struct Edge {
+    unsigned from, to, weight;
+};
+struct Rule {
+    unsigned left_kind, left_variable, right_kind, right_variable;
+};
+struct Order {
+    unsigned first, second;
+};
 
 struct Request {
     std::vector<Node> nodes;
@@ -28,7 +36,9 @@ struct Request {
     std::vector<Order> orders;
 };
 
-struct Refusal { Number answer, place; };
+struct Refusal {
+    Number answer, place;
+};
 
 // reference_read.cpp: bytes to a request and back.
 struct Reading {
@@ -52,7 +62,8 @@ Cut cut_by_subsets(const Request &request);   // tries every set of the edges th
 Cut cut_by_deciding(const Request &request);  // takes or leaves one edge after the other, with a bound
 Number weight_of(const Request &request, const Cut &cut);
 
-// reference.cpp: the three operations. `room` is the length of the lent buffer; what is to be written is handed back.
+// reference.cpp: the three operations. `room` is the length of the lent buffer; `out` is what must be written to
+// it.
 struct Report {
     Number answer, place, fences, weight;
     Bytes out;

@@ -13,8 +13,8 @@ constexpr std::size_t few = 14;  // with so many edges that matter, every set is
 // The routes of the open orders, each as the set of its edges, and the edges on them. No other edge can be in a cut
 // of least weight, since without it the cut would be lighter.
 struct Problem {
-    std::vector<unsigned> edges;            // rising edge numbers
-    std::vector<std::vector<bool>> meets;   // meets[r][i]: route r runs over edges[i]
+    std::vector<unsigned> edges;           // rising edge numbers
+    std::vector<std::vector<bool>> meets;  // meets[r][i]: route r runs over edges[i]
     std::vector<Number> weights;
 };
 
@@ -47,9 +47,8 @@ Problem problem_of(const Request &request) {
     }
     // Shorter routes first, and each once: the bound below gets sharper, the problem stays the same.
     const auto size = [](const std::vector<bool> &on) { return std::count(on.begin(), on.end(), true); };
-    std::sort(problem.meets.begin(), problem.meets.end(), [&](const auto &a, const auto &b) {
-        return size(a) != size(b) ? size(a) < size(b) : a < b;
-    });
+    std::sort(problem.meets.begin(), problem.meets.end(),
+              [&](const auto &a, const auto &b) { return size(a) != size(b) ? size(a) < size(b) : a < b; });
     problem.meets.erase(std::unique(problem.meets.begin(), problem.meets.end()), problem.meets.end());
     return problem;
 }
@@ -75,8 +74,8 @@ Cut subsets(const Problem &problem) {
     return best;
 }
 
-// Decides the edges in rising order, taking before leaving. So the sets come in the order of their rising lists, and of
-// several least ones the first stays.
+// Decides the edges in rising order, taking before leaving. So the sets come in the order of their rising lists,
+// and of several least ones the first stays.
 class Decision {
 public:
     explicit Decision(const Problem &problem) : problem_(problem), taken_(problem.edges.size(), false) {}
@@ -89,8 +88,8 @@ public:
 private:
     using Routes = std::vector<std::vector<bool>>;
 
-    // At least so much more must be spent on the routes not met: each pays what its edges from `next` on can still bear.
-    // Never is when a route has no such edge.
+    // At least so much more must be spent on the routes not met: each pays what its edges from `next` on can still
+    // bear. Never is when a route has no such edge.
     Number bound(std::size_t next, const Routes &unmet) const {
         std::vector<Number> left = problem_.weights;
         Number total = 0;

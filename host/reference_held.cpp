@@ -33,9 +33,8 @@ bool extend(const Request &request, Route &route, unsigned to, const std::functi
 }
 
 bool some_rule_fits(const Request &request, unsigned left, unsigned right) {
-    return std::any_of(request.rules.begin(), request.rules.end(), [&](const Rule &rule) {
-        return fits(rule, request.nodes[left], request.nodes[right]);
-    });
+    return std::any_of(request.rules.begin(), request.rules.end(),
+                       [&](const Rule &rule) { return fits(rule, request.nodes[left], request.nodes[right]); });
 }
 
 }  // namespace

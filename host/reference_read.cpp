@@ -31,11 +31,12 @@ std::size_t bytes_of(const Layout &layout) {
     return bytes;
 }
 
-// The table's row of the record that can be read at `at`, or the number of rows. Rows before `row` come too late here.
+// The table's row of the record that can be read at `at`, or the number of rows. Rows before `row` come too late.
 std::size_t row_at(const Bytes &file, std::size_t at, std::size_t row) {
     for (; row < layouts().size(); ++row) {
         const Layout &layout = layouts()[row];
-        if (at + bytes_of(layout) <= file.size() && file[at] == layout.mark[0] && file[at + 1] == layout.mark[1]) break;
+        if (at + bytes_of(layout) <= file.size() && file[at] == layout.mark[0] && file[at + 1] == layout.mark[1])
+            break;
     }
     return row;
 }
@@ -90,8 +91,8 @@ bool bad_order(const Request &so_far, const Order &order) {
     const bool repeated = std::any_of(so_far.orders.begin(), so_far.orders.end(), [&](const Order &other) {
         return other.first == order.first && other.second == order.second;
     });
-    return order.first >= so_far.nodes.size() || order.second >= so_far.nodes.size() || order.first == order.second ||
-           repeated;
+    return order.first >= so_far.nodes.size() || order.second >= so_far.nodes.size() ||
+           order.first == order.second || repeated;
 }
 
 // Adds one record to the request and notes what is wrong with it.
@@ -117,9 +118,8 @@ void take(const Record &record, Number place, Request &request, std::vector<Refu
 }
 
 bool has_rule(const Request &request, unsigned left, unsigned right) {
-    return std::any_of(request.rules.begin(), request.rules.end(), [&](const Rule &rule) {
-        return rule.left_kind == left && rule.right_kind == right;
-    });
+    return std::any_of(request.rules.begin(), request.rules.end(),
+                       [&](const Rule &rule) { return rule.left_kind == left && rule.right_kind == right; });
 }
 
 void put(Bytes &out, const std::string &mark) { out.insert(out.end(), mark.begin(), mark.end()); }
@@ -149,7 +149,8 @@ Reading read(const Bytes &file) {
 Bytes written(const Request &request) {
     Bytes out;
     for (const Node &n : request.nodes) put(out, "ND"), put(out, n.kind, 1), put(out, n.address, 1);
-    for (const Edge &e : request.edges) put(out, "ED"), put(out, e.from, 2), put(out, e.to, 2), put(out, e.weight, 2);
+    for (const Edge &e : request.edges)
+        put(out, "ED"), put(out, e.from, 2), put(out, e.to, 2), put(out, e.weight, 2);
     for (const Rule &r : request.rules)
         put(out, "RU"), put(out, r.left_kind, 1), put(out, r.left_variable, 1), put(out, r.right_kind, 1),
             put(out, r.right_variable, 1);

@@ -31,7 +31,8 @@ inline Request loop() {
 
 inline Request nothing() { return {{}, {}, fence_rules, {}}; }
 
-// A straight line of stores and loads in turn, n nodes, all edges of weight 1; an order from its first node to its last.
+// A straight line of n nodes, stores and loads in turn, edges of weight 1; an order from its first node to its
+// last.
 inline Request line(unsigned n) {
     Request request{{}, {}, fence_rules, {}};
     for (unsigned i = 0; i < n; ++i) request.nodes.push_back({i % 2, i});

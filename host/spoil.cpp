@@ -69,8 +69,12 @@ Request unfit(Random &random, Request request) {
         case 0: any(random, request.edges).weight += 1; break;
         case 1: request.edges.back().weight += 1; break;
         case 2: std::swap(any(random, request.edges), request.edges.back()); break;
-        case 3: request.edges.insert(request.edges.begin(), {random.below(nodes), nodes - 1 - high, last.weight}); break;
-        case 4: request.edges.insert(request.edges.begin(), {nodes - 1 - high, random.below(nodes), last.weight}); break;
+        case 3:
+            request.edges.insert(request.edges.begin(), {random.below(nodes), nodes - 1 - high, last.weight});
+            break;
+        case 4:
+            request.edges.insert(request.edges.begin(), {nodes - 1 - high, random.below(nodes), last.weight});
+            break;
         case 5: request.nodes[nodes - 1 - high] = {random.below(3), 0}; break;
         case 6:  // what joining the last edge with one before it would give
             for (const Edge &edge : std::vector<Edge>(request.edges))

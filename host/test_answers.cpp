@@ -61,13 +61,13 @@ TEST_CASE("answer 0: each operation on D") {
 TEST_CASE("answer 1: what can't be read, and where") {
     check_all({}, 1, 0);
     check_all({'E'}, 1, 0);
-    check_all(with(d, 0, 'X'), 1, 0);                        // unknown mark
-    check_all(with(d, 41, 'n'), 1, 40);                      // known letters, other case
-    check_all({'N', 'D', 0, 0, 'E', 'D', 0, 0}, 1, 4);       // cut short
-    check_all({d.begin(), d.end() - 2}, 1, 82);              // no EN: the file's length
-    check_all({d.begin(), d.end() - 1}, 1, 82);              // half an EN
-    check_all(plus(d, "E"), 1, 84);                          // bytes after EN
-    check_all(plus(d, "EN"), 1, 84);                         // a second EN
+    check_all(with(d, 0, 'X'), 1, 0);                               // unknown mark
+    check_all(with(d, 41, 'n'), 1, 40);                             // known letters, other case
+    check_all({'N', 'D', 0, 0, 'E', 'D', 0, 0}, 1, 4);              // cut short
+    check_all({d.begin(), d.end() - 2}, 1, 82);                     // no EN: the file's length
+    check_all({d.begin(), d.end() - 1}, 1, 82);                     // half an EN
+    check_all(plus(d, "E"), 1, 84);                                 // bytes after EN
+    check_all(plus(d, "EN"), 1, 84);                                // a second EN
     check_all(plus({'E', 'D', 0, 0, 0, 0, 1, 0}, "NDxxEN"), 1, 8);  // ND after ED
 }
 
@@ -96,8 +96,16 @@ TEST_CASE("answer 4: edges") {
 }
 
 TEST_CASE("answer 5: rules") {
-    for (const Rule &rule : std::vector<Rule>{{4, 0, 3, 0}, {3, 0, 4, 0}, {3, 1, 2, 0}, {3, 0, 2, 1}, {0, 2, 0, 1},
-                                              {0, 0, 0, 1}, {0, 1, 0, 0}, {0, 1, 0, 3}, {3, 0, 0, 2}, {2, 0, 1, 2}})
+    for (const Rule &rule : std::vector<Rule>{{4, 0, 3, 0},
+                                              {3, 0, 4, 0},
+                                              {3, 1, 2, 0},
+                                              {3, 0, 2, 1},
+                                              {0, 2, 0, 1},
+                                              {0, 0, 0, 1},
+                                              {0, 1, 0, 0},
+                                              {0, 1, 0, 3},
+                                              {3, 0, 0, 2},
+                                              {2, 0, 1, 2}})
         check_all(changed([&](Request &r) { r.rules.insert(r.rules.begin() + 1, rule); }), 5, 8);
 }
 

@@ -42,7 +42,8 @@ TEST_CASE("cut off at each byte: answer 1 at the record that is cut") {
 TEST_CASE("each byte changed to each of many values") {
     Comparison comparison;
     for (std::size_t at = 0; at < d.size(); ++at) {
-        for (std::uint8_t value : Bytes{0, 1, 2, 3, 4, 5, 9, 64, 127, 128, 254, 255, 'N', 'D', 'E', 'R', 'U', 'O'}) {
+        for (std::uint8_t value :
+             Bytes{0, 1, 2, 3, 4, 5, 9, 64, 127, 128, 254, 255, 'N', 'D', 'E', 'R', 'U', 'O'}) {
             Bytes file = d;
             file[at] = value;
             compare_all(comparison, file);

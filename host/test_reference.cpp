@@ -1,5 +1,5 @@
-// The reference itself: its definitions one by one, its two ways to a cut against a third, most literal one, and the
-// plausible programs that are wrong.
+// The reference itself: its definitions one by one, its two ways to a cut against a third, most literal one, and
+// the plausible programs that are wrong.
 #include <doctest/doctest.h>
 
 #include <algorithm>

@@ -35,8 +35,8 @@ std::size_t stack_of(std::function<void()> call) {
     return static_cast<std::size_t>(stack.end() - touched);
 }
 
-// 31 sources, each with an edge to the sink and over five nodes whose edges on to it are too heavy to cut: the least cut
-// has 186 of the 191 edges, and the search goes one deeper for each.
+// 31 sources, each with an edge to the sink and over five nodes whose edges on to it are too heavy to cut: the
+// least cut has 186 of the 191 edges, and the search goes one deeper for each.
 Request deep() {
     Request request{std::vector<Node>(37, {store, 1}), {}, fence_rules, {}};
     const unsigned sink = 36;

@@ -23,7 +23,8 @@ void check_strip(const Request &request, Number count, Number answer, Number wei
         CHECK(report.fences == (answer == 0 ? request.nodes.size() - count : 0));
         CHECK(report.weight == weight);
     }
-    CHECK(library::strip(written(request), count, ample).out == reference::strip(written(request), count, ample).out);
+    CHECK(library::strip(written(request), count, ample).out ==
+          reference::strip(written(request), count, ample).out);
 }
 
 }  // namespace
@@ -82,10 +83,8 @@ TEST_CASE("a fence in a loop joins to a self-edge, where that is free") {
 
 TEST_CASE("fences that stood in the first file come off too, down to none") {
     // Three fences in a ring.
-    Request request{{{full_fence, 0}, {full_fence, 0}, {full_fence, 0}},
-                    {{0, 1, 3}, {1, 2, 3}, {2, 0, 3}},
-                    fence_rules,
-                    {}};
+    Request request{
+        {{full_fence, 0}, {full_fence, 0}, {full_fence, 0}}, {{0, 1, 3}, {1, 2, 3}, {2, 0, 3}}, fence_rules, {}};
     check_strip(request, 2, 0, 3);
     check_strip(request, 1, 0, 6);
     check_strip(request, 0, 10, 0);  // the last has a self-edge
@@ -99,8 +98,9 @@ TEST_CASE("counts of every size") {
     const Request request = one_fence();
     check_strip(request, 3, 0, 0);
     CHECK(library::strip(written(request), 3, ample).out == written(request));
-    for (Number count : {Number{0}, Number{1}, Number{4}, Number{64}, Number{65}, Number{256} + 2, (Number{1} << 16) + 2,
-                         (Number{1} << 32) + 2, Number{1} << 63, (Number{1} << 63) + 3, ~Number{0}})
+    for (Number count :
+         {Number{0}, Number{1}, Number{4}, Number{64}, Number{65}, Number{256} + 2, (Number{1} << 16) + 2,
+          (Number{1} << 32) + 2, Number{1} << 63, (Number{1} << 63) + 3, ~Number{0}})
         check_strip(request, count, 10, 0);
 }
 

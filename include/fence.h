@@ -94,7 +94,7 @@ extern "C" {
 
 /* Bytes of stack that a call takes at most. Run's search goes one level deeper for each edge of the cut it tries. */
 #define FENCE_RUN_STACK 524288
-#define FENCE_ASK_STACK 65536
+#define FENCE_ASK_STACK 98304
 #define FENCE_STRIP_STACK 16384
 
 /* What run and strip return. */

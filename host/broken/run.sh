@@ -1,6 +1,7 @@
 #!/usr/bin/env bash
-# Shows that the comparison finds mistakes: each *.sed here breaks a copy of the reference or of the plain version, which
-# is then compared with the sound reference. Needs no library and no emulator. Its last line is 'N passed, M failed'.
+# Shows that the comparison finds mistakes: each *.sed here breaks a copy of the reference or of the plain version,
+# which is then compared with the sound reference. Needs no library and no emulator. Its last line is
+# 'N passed, M failed'.
 set -u -o pipefail
 cd "$(dirname "$0")" || exit 1
 host=$PWD/..
@@ -14,21 +15,20 @@ object() { echo "$work/$(basename "$1" .cpp).o"; }
 
 # The sound half: reference, generator, comparison.
 mkdir "$work/sound"
-for name in reference reference_read reference_held reference_cut library generate spoil damage compare compare_main; do
+for name in reference{,_read,_held,_cut} library generate spoil damage compare groups compare_main; do
     compile -c "$host/$name.cpp" -o "$work/sound/$name.o" || exit 1
 done
 
 # The half that gets broken, under other names.
-references="$host/reference.cpp $host/reference_read.cpp $host/reference_held.cpp $host/reference_cut.cpp"
-plains="$host/../bench/plain.cpp $host/../bench/plain_read.cpp $host/../bench/plain_walk.cpp $host/../bench/plain_cut.cpp"
-for source in $references $plains; do compile -Dreference=broken -c "$source" -o "$(object "$source")" || exit 1; done
+sources=("$host"/reference{,_read,_held,_cut}.cpp "$host"/../bench/plain{,_read,_walk,_cut}.cpp)
+for source in "${sources[@]}"; do compile -Dreference=broken -c "$source" -o "$(object "$source")" || exit 1; done
 compile -Dreference=broken -c shim.cpp -o "$work/shim_reference.o" || exit 1
 compile -Dreference=broken -DPLAIN -c shim.cpp -o "$work/shim_plain.o" || exit 1
 
 # Links what stands in $work behind the shim of the kind named, and compares.
 compared() {
     local objects=("$work/shim_$1.o") source
-    for source in $references $plains; do objects+=("$(object "$source")"); done
+    for source in "${sources[@]}"; do objects+=("$(object "$source")"); done
     compile "$work"/sound/*.o "${objects[@]}" -o "$work/compare" && "$work/compare" 1 2 >"$work/log" 2>&1
 }
 
@@ -46,7 +46,8 @@ for edit in *.sed; do
         echo "${edit%.sed}: the edit changes nothing or can't be compiled"; count 1; continue
     fi
     compared "${name%%[._]*}"
-    found=$(sed -n 's/^compare \([a-z ]*[a-z]\) .* \([1-9][0-9]*\) differences$/ \2 in \1/p' "$work/log" | paste -sd , -)
+    counts='s/^compare \([a-z ]*[a-z]\) .* \([1-9][0-9]*\) differences$/ \2 in \1/p'
+    found=$(sed -n "$counts" "$work/log" | paste -sd , -)
     echo "${edit%.sed}:${found:- not found}"
     [ -n "$found" ]; count $?
     compile -Dreference=broken -c "$source" -o "$(object "$name")"

@@ -1,5 +1,5 @@
-// A program that may be broken, behind the library's interface: the reference, or with PLAIN the plain version's run.
-// Compiled with the reference's namespace renamed, so that the sound reference can be linked beside it.
+// A program that may be broken, behind the library's interface: the reference, or with PLAIN the plain version's
+// run. Compiled with the reference's namespace renamed, so that the sound reference can be linked beside it.
 #include <algorithm>
 
 #include "fence.h"
