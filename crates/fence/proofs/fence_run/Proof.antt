@@ -1,3 +1,4 @@
+-- `fence::fence_run` meets its contract: a file that is not accepted is refused; else it is decoded once and run.
 use Rattle.fence.proofs.Reading.{whole-read, whole-reads, whole-ready}
 use Rattle.fence.proofs.Unread.{run-unread}
 use borrow.Author.Needs.{needs}

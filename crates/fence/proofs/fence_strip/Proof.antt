@@ -1,3 +1,4 @@
+-- `fence::fence_strip` meets its contract: a file that is not accepted is refused; else it is decoded once and stripped.
 use Rattle.fence.proofs.Reading.{whole-read, whole-reads, whole-ready}
 use Rattle.fence.proofs.Unread.{strip-unread}
 use borrow.Author.Needs.{needs}

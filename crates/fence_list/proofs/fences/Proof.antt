@@ -1,3 +1,4 @@
+-- `fence_list::fences` ends, and no index or sum in it fails: line by line.
 use Prim.Native.Nat.{_-_, _≤_}
 use borrow.Author.Needs.{needs}
 use Rattle.fence_list.proofs.fences.Statement.{statement}

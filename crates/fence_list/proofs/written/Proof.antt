@@ -1,3 +1,4 @@
+-- `fence_list::written` ends: what run wrote is a file, so it decodes.
 use Rattle.fence.proofs.Reading.{whole-read}
 use borrow.Author.Needs.{needs}
 use Rattle.fence_list.proofs.written.Statement.{statement}

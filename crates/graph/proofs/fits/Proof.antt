@@ -1,3 +1,4 @@
+-- `graph::fits` meets its contract: one case for each pair of sides; a variable named twice is one address.
 use borrow.Author.Needs.{needs}
 use borrow.Author.Tests.{eq-eqb, ne-eqb}
 use mathlib.Core.Path.{_≡_, sym, ap, ap₂, _∙_}

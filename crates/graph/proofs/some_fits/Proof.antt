@@ -1,3 +1,4 @@
+-- `graph::some_fits` meets its contract: rule by rule.
 use Prim.Native.Nat.{ℕ, _≤_, _-_, _<_, suc, _+_}
 use mathlib.Core.Path.{_≡_, sym, ap, _∙_}
 use mathlib.Core.Bool.{Bool, true, false}

@@ -1,3 +1,4 @@
+-- `graph::wants` meets its contract: one case for each kind of side and label.
 use borrow.Author.Needs.{needs}
 use mathlib.Core.Path.{sym, ap, ap₂, _∙_}
 use Rattle.graph.specs.declared.Side.the-variants.{Is}

@@ -1,3 +1,4 @@
+-- `walk::visit` and `walk::trial` meet their contracts: each on the other's; a node more is visited each time.
 use mathlib.Core.Path.{_≡_, refl, sym, ap, _∙_}
 use Prim.Native.Nat.{_+_, _-_, _*_, _^_, ℕ, _<_}
 use native.Mathlib.Omega.{arith}

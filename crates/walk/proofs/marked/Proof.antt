@@ -1,3 +1,4 @@
+-- `walk::marked` meets its contract: by whether v is ordered after the first.
 use mathlib.Core.Path.{sym, ap, _∙_}
 use borrow.Author.Needs.{needs}
 use borrow.Author.Tests.{not-true, not-false}

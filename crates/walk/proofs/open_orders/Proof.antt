@@ -1,3 +1,4 @@
+-- `walk::open_orders` meets its contract: order by order.
 use mathlib.Core.Path.{_≡_, refl, _∙_}
 use Prim.Native.Nat.{ℕ, _<_, _≤_, _-_}
 use native.Mathlib.Omega.{arith}

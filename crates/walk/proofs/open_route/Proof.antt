@@ -1,3 +1,4 @@
+-- `walk::open_route` meets its contract: the walk from the order's first node.
 use mathlib.Core.Path.{_≡_, ap, _∙_}
 use lib.Count.{ones}
 use borrow.Author.Needs.{needs}

@@ -1,3 +1,4 @@
+-- `fence::answer::refused` meets its contract: field by field.
 use borrow.Author.Needs.{needs}
 use Rattle.fence.proofs.answer.refused.Statement.{statement}
 use Rattle.fence.proofs.answer.refused.Tie as tie

@@ -1,3 +1,4 @@
+-- `fence::answer::unshown` meets its contract: field by field.
 use borrow.Author.Needs.{needs}
 use Rattle.fence.proofs.answer.unshown.Statement.{statement}
 use Rattle.fence.proofs.answer.unshown.Tie as tie

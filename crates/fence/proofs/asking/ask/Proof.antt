@@ -1,3 +1,4 @@
+-- `fence::asking::ask` meets its contract: one case for each answer, and the walk's outcome where none is refused.
 use native.Mathlib.Omega.{arith}
 use Rattle.fence.proofs.Shows.{unknown-order, few-entries, order-nodes, route-shown}
 use borrow.Author.Needs.{needs}

@@ -1,3 +1,4 @@
+-- `fence::asking::put_route` meets its contract: entry by entry; what lies past the route stays.
 use lib.Seq.{length-take-le}
 use native.Mathlib.Omega.{arith}
 use Prim.Native.Nat.{ℕ, _+_, _-_, _≤_}

@@ -1,3 +1,4 @@
+-- `fence::running::run` meets its contract: the open orders, their chosen cut, then one case for each answer.
 use native.Mathlib.Omega.{arith}
 use Rattle.fence.proofs.Fenced.{ready-orderly, full-nodes, full-edges, short-buffer, file-written}
 use borrow.Author.Needs.{needs}

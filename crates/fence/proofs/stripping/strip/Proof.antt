@@ -1,3 +1,4 @@
+-- `fence::stripping::strip` meets its contract: what is taken off, then one case for each answer.
 use native.Mathlib.Omega.{arith}
 use Rattle.fence.proofs.Freed.{more-asked, named-above, not-freed, small-buffer, freed-written}
 use borrow.Author.Needs.{needs}

@@ -1,3 +1,4 @@
+-- `fencing::off::first_pair` meets its contract: edge by edge; no earlier edge is the pair.
 use mathlib.Core.Logic.{⊎-elim}
 use native.Mathlib.Omega.{arith}
 use Prim.Native.Nat.{ℕ, _+_, _-_, _<_, _≤_}

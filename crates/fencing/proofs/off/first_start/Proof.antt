@@ -1,3 +1,4 @@
+-- `fencing::off::first_start` meets its contract: edge by edge; no earlier edge starts there.
 use native.Mathlib.Omega.{arith}
 use Prim.Native.Nat.{ℕ, _+_, _-_, _<_, _≤_}
 use mathlib.Core.Path.{_≡_, sym, ap, _∙_}

@@ -1,3 +1,4 @@
+-- `fencing::off::loose` meets its contract: one case for each thing that a step of strip looks at.
 use native.Mathlib.Omega.{arith}
 use Prim.Native.Nat.{ℕ, _+_, _-_, _<_, _≤_}
 use mathlib.Core.Path.{_≡_, sym, ap, _∙_, subst₂}

@@ -1,3 +1,4 @@
+-- `fencing::off::names_above` meets its contract: order by order.
 use native.Mathlib.Omega.{arith}
 use Prim.Native.Nat.{ℕ, _+_, _-_, _<_, _≤_}
 use mathlib.Core.Path.{sym}

@@ -1,3 +1,4 @@
+-- `fencing::off::take_off` meets its contract: fence by fence, from the last; the nodes left fall.
 use native.Mathlib.Omega.{arith}
 use Prim.Native.Nat.{_≤_}
 use mathlib.Core.Path.{refl}

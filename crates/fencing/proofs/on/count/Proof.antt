@@ -1,3 +1,4 @@
+-- `fencing::on::count` meets its contract: edge by edge.
 use mathlib.Core.Logic.{⊎-elim}
 use mathlib.Core.Bool.{Bool}
 use mathlib.Core.List.{List}

@@ -1,3 +1,4 @@
+-- `fencing::on::put_on` meets its contract: edge by edge; each edge of the cut gets the next fence.
 use mathlib.Core.Logic.{⊎-elim}
 use mathlib.Core.Path.{_≡_, subst⁻¹}
 use mathlib.Core.List.{[]}

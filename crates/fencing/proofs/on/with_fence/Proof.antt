@@ -1,3 +1,4 @@
+-- `fencing::on::with_fence` meets its contract: the node and the edge added have room.
 use mathlib.Core.Path.{refl}
 use Rattle.fencing.proofs.Placed.{fence-put, roomy-put}
 use borrow.Author.Needs.{needs}

@@ -1,3 +1,4 @@
+-- `request::put::put_node` meets its contract: one case for each kind of label.
 use mathlib.Core.Path.{ap}
 use native.Mathlib.Omega.{arith}
 use Rattle.request.specs.File.{node-bytes, side-bytes}

@@ -1,3 +1,4 @@
+-- `request::put::put_rule` meets its contract: the mark and the two sides are the record's bytes.
 use mathlib.Core.Path.{ap}
 use native.Mathlib.Omega.{arith}
 use Rattle.request.specs.File.{node-bytes, side-bytes}

@@ -1,3 +1,4 @@
+-- `request::put::put_side` meets its contract: one case for each kind of side.
 use mathlib.Core.Path.{ap, _∙_}
 use Rattle.graph.specs.declared.Label.{Label}
 use Rattle.graph.specs.declared.Side.the-variants.{Is}

@@ -1,3 +1,4 @@
+-- `request::put::put_two` meets its contract: two bytes, the lower first.
 use mathlib.Core.Path.{refl}
 use native.Mathlib.Omega.{arith}
 use lib.ListN.{length-set}

@@ -1,3 +1,4 @@
+-- `request::write::put_nodes` meets its contract: record by record.
 use native.Mathlib.Omega.{arith}
 use Prim.Native.Nat.{ℕ, _+_, _*_, _-_, _≤_}
 use mathlib.Core.Path.{_≡_}

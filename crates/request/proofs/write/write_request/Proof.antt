@@ -1,3 +1,4 @@
+-- `request::write::write_request` meets its contract: the parts one after the other are the file.
 use native.Mathlib.Omega.{arith}
 use Rattle.request.proofs.Writing.{request-whole}
 use borrow.Author.Needs.{needs}

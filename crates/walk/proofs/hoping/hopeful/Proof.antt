@@ -1,3 +1,4 @@
+-- `walk::hoping::hopeful` meets its contract: node by node; the words only fall, and bound every way on.
 use mathlib.Core.Path.{sym, ap, _∙_}
 use Prim.Native.Nat.{ℕ, _*_, _-_, _≤_, _<_, _^_}
 use native.Mathlib.Omega.{arith}

@@ -1,3 +1,4 @@
+-- `walk::hoping::into_word` meets its contract: flag by flag.
 use mathlib.Core.Logic.{⊎-elim}
 use mathlib.Core.Path.{_≡_, sym, ap, _∙_}
 use Prim.Native.Nat.{ℕ, _-_, _≤_}

@@ -1,3 +1,4 @@
+-- `walk::hoping::lower` meets its contract: node by node.
 use mathlib.Core.Logic.{⊎-elim}
 use Prim.Native.Nat.{_-_, _<_, _^_}
 use native.Mathlib.Omega.{arith}

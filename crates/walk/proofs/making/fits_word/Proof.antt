@@ -1,3 +1,4 @@
+-- `walk::making::fits_word` meets its contract: node by node.
 use mathlib.Core.Bool.{Bool}
 use mathlib.Core.Logic.{⊎-elim}
 use mathlib.Core.Path.{_≡_, sym, ap, _∙_}

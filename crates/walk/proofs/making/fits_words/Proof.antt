@@ -1,3 +1,4 @@
+-- `walk::making::fits_words` meets its contract: node by node.
 use mathlib.Core.Bool.{Bool, _&&_}
 use mathlib.Core.Path.{_≡_, refl, ap, _∙_}
 use Prim.Native.Nat.{ℕ, _-_, _≤_}

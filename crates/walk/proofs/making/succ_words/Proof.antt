@@ -1,3 +1,4 @@
+-- `walk::making::succ_words` meets its contract: edge by edge.
 use mathlib.Core.Path.{_≡_, refl, _∙_}
 use Prim.Native.Nat.{_-_, _≤_, _<_}
 use native.Mathlib.Omega.{arith}

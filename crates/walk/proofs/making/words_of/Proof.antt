@@ -1,3 +1,4 @@
+-- `walk::making::words_of` meets its contract: part by part.
 use borrow.Author.Needs.{needs}
 use Rattle.walk.proofs.Made.{all-ends, words-made}
 use Rattle.walk.proofs.making.words_of.Statement.{statement}
