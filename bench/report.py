@@ -98,7 +98,13 @@ def table(rows, base, where):
     text += [where, "",
              "The solvers get the same cut as an integer program, find its weight only (no tie rule), and are timed as",
              f"processes; starting one costs {milliseconds(base['glpsol'])} ms (glpsol) and "
-             f"{milliseconds(base['cbc'])} ms (cbc) of that.", ""]
+             f"{milliseconds(base['cbc'])} ms (cbc) of that.", "",
+             "The plain version was fitted to the library after a first comparison: it takes routes in the library's order",
+             "and drops the same edges from a branch, so that both search the same tree and the ratio is that of the code.",
+             "The first one, written from the algorithm alone, broke ties otherwise; an earlier build's worst ratio to it",
+             "was 36. The plain version finds routes with a queue, the library scans all edges for each layer, which is",
+             "likely where the worst ratios come from.",
+             ""]
     text += head + [line(name, group) for name, group in groups(rows, "family")] + [line("all", rows)]
     text += [""] + [head[0].replace("family", "weights", 1), head[1]]
     text += [line(name, group) for name, group in groups(rows, "weights")]

@@ -29,4 +29,4 @@ too long, and the solvers' ratios too small, by the emulator's factor."
 fi
 
 "${emulator[@]}" "$build/measure" "$seed" "$build/programs" >"$build/results.csv"
-python3 report.py "$build/results.csv" "$build/programs" "$where" TIMES.md times.svg
+python3 -B report.py "$build/results.csv" "$build/programs" "$where" TIMES.md times.svg

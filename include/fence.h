@@ -73,7 +73,7 @@
  *    7  the rules lack "any to fence" or "fence to any"                         0
  *    8  ask: there is no order of this number                                   0
  *    9  run: with the fences there would be over 64 nodes or over 192 edges     0
- *   10  strip: a node above the count is asked for or is no added fence         0
+ *   10  strip: fewer nodes than the count, or one that must stay (see there)    0
  *   11  the lent buffer is too short (ask: below 64 entries)                    0
  */
 #ifndef FENCE_H
@@ -136,7 +136,8 @@ fence_route fence_ask(const uint8_t *file, size_t file_len, uint64_t order, uint
  * Takes nodes off until `count` are left, and writes the file without them to `out`. The highest node must
  * be as run adds it: a full fence, with one edge to it and one, the last of all, from it, both of one
  * weight; these two become one edge again, at the place of the first, which must not be an edge already. No
- * order may name a node that goes. With `count` the number of nodes the file is copied.
+ * order may name a node that goes. Any miss, and a `count` above the number of nodes, is answer 10. With
+ * `count` the number of nodes the file is copied.
  * Answers: 0, 1 to 7, 10, 11.
  */
 fence_report fence_strip(const uint8_t *file, size_t file_len, uint64_t count, uint8_t *out,

@@ -54,12 +54,12 @@ struct Refusal {
             "There are more records of this mark than the limit allows.",
             "This node's kind is above 2, or it is a fence with an address.",
             "This edge has an end that is no node, or weight 0, or stands twice.",
-            "This rule has a kind above 3, or a variable that isn't the next one.",
+            "This rule has a kind above 3, or a variable that doesn't belong there.",
             "This order names a missing node, or one node twice, or stands twice.",
             "The rules lack wildcard to fence, or fence to wildcard.",
             "There is no order of this number.",
             "With its fences the graph would pass 64 nodes or 192 edges.",
-            "A node above the count is asked for, or isn't a fence as run adds it.",
+            "The count is above the nodes, or a node that goes is named by an order or isn't as run adds it.",
             "The lent buffer is too short.",
         };
         return answer < sentences.size() ? sentences[answer] : "This answer is unknown.";
