@@ -55,27 +55,46 @@ std::vector<Order> asked(Random &random, const Shape &shape, unsigned count) {
     return orders;
 }
 
+Instance drawn(Random &random, const Family &family, unsigned size, unsigned weights, unsigned orders) {
+    Builder builder(random, size);
+    family.build(builder);
+    const Shape shape = builder.shape();
+    const std::vector<Rule> &rules = random.chance(50) ? total_store_order : one_address;
+    const std::vector<Edge> edges = weighed(random, shape, weights);
+    return {family.name, weight_names[weights], {shape.nodes, edges, rules, asked(random, shape, orders)}};
+}
+
+// Each order spans three edges that no other has.
+Instance line_of_orders(unsigned orders) {
+    Request request{{{store, 0}}, {}, one_address, {}};
+    for (unsigned i = 0; i < 3 * orders; ++i) {
+        request.nodes.push_back({store, i + 1});
+        request.edges.push_back({i, i + 1, 1});
+        if (i % 3 == 2) request.orders.push_back({i - 2, i + 1});
+    }
+    return {"line", weight_names[0], request};
+}
+
+bool is_one_of(const std::string &name, const std::set<std::string> &names) { return names.count(name) != 0; }
+
 }  // namespace
 
 std::vector<Instance> instances(std::uint64_t seed) {
     static const unsigned sizes[] = {8, 16, 24, 32, 40, 48, 56, 62}, counts[] = {1, 2, 4, 8, 16, 32};
     std::vector<Instance> all;
     Random random(seed);
-    for (const Family &family : families()) {
-        for (unsigned size : sizes) {
-            for (unsigned i = 0; i < 6; ++i) {
-                Builder builder(random, size);
-                family.build(builder);
-                const Shape shape = builder.shape();
-                const unsigned weights = i % 3;
-                const std::vector<Rule> &rules = random.chance(50) ? total_store_order : one_address;
-                const std::vector<Edge> edges = weighed(random, shape, weights);
-                all.push_back({family.name,
-                               weight_names[weights],
-                               {shape.nodes, edges, rules, asked(random, shape, counts[random.below(6)])}});
-            }
-        }
-    }
+    for (const Family &family : families())
+        for (unsigned size : sizes)
+            for (unsigned i = 0; i < 6; ++i) all.push_back(drawn(random, family, size, i % 3, counts[random.below(6)]));
+    return all;
+}
+
+std::vector<Instance> large(std::uint64_t seed) {
+    std::vector<Instance> all{line_of_orders(20)};
+    Random random(seed);
+    for (const Family &family : families())
+        if (is_one_of(family.name, {"structured", "classic", "commit"}))
+            for (unsigned i = 0; i < 200; ++i) all.push_back(drawn(random, family, 60, 0, 32));
     return all;
 }
 

@@ -14,8 +14,12 @@ struct Instance {
     reference::Request request;
 };
 
-// The same for the same seed, on every machine.
+// Both are the same for the same seed, on every machine. The corpus: all families, sizes, numbers of orders, weights.
 std::vector<Instance> instances(std::uint64_t seed);
+
+// The largest procedures, for which times are promised: 60 nodes, 32 orders, equal weights; and a line of 20 disjoint
+// orders of three edges each, so with 3^20 equal cuts.
+std::vector<Instance> large(std::uint64_t seed);
 
 }  // namespace corpus
 

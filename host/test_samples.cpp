@@ -109,6 +109,24 @@ TEST_CASE("P9 and P10: D's order 0 shows 0, 1, 2 and order 2 is held") {
     }
 }
 
+TEST_CASE("ask shows the first route by node numbers, whatever the order of the edges") {
+    // edge numbers alone would lead from 0 to 2 first, fewest nodes from 0 to 4, and from 1 on the edge to 3 stands before that to 2
+    Request request{{{store, 1}, {store, 2}, {store, 3}, {store, 4}, {load, 5}},
+                    {{0, 2, 1}, {2, 4, 1}, {0, 4, 1}, {0, 1, 1}, {1, 3, 1}, {3, 4, 1}, {1, 2, 1}},
+                    fence_rules,
+                    {{0, 4}}};
+    for (const Program &program : programs) {
+        CAPTURE(program.name);
+        CHECK(program.ask(written(request), 0, 64).route == Route{0, 1, 2, 4});
+    }
+    // with a fence as node 2 the first route that does not order its ends is a later one
+    request.nodes[2] = {full_fence, 0};
+    for (const Program &program : programs) {
+        CAPTURE(program.name);
+        CHECK(program.ask(written(request), 0, 64).route == Route{0, 1, 3, 4});
+    }
+}
+
 TEST_CASE("P11 and P12: D with its fences stripped to 4 is D; D stripped to 3 is refused") {
     for (const Program &program : programs) {
         CAPTURE(program.name);

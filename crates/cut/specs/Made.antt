@@ -19,5 +19,6 @@ pub record Made (ws : List ℕ) (c : Cut) : Type 0 where
   pub sum : weigh ws (c .chosen) ≡ c .weight
   pub small : c .weight < most-weight
 
+-- r is the lighter of a and b, a where they weigh the same; an answer that found none loses
 abbrev pub Lighter : Pick → Pick → Pick → Type 0
 Lighter a b r = ((r ≡ a) × (a .found ≡ true) × (b .found ≡ true → a .cut .weight ≤ b .cut .weight)) ⊎ ((r ≡ b) × (a .found ≡ true → (b .found ≡ true) × (b .cut .weight < a .cut .weight)))

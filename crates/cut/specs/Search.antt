@@ -50,6 +50,7 @@ pub record Reduced (route : Route) (a : ℕ) (left left′ : List ℕ) : Type 0 
 abbrev pub Packed : List ℕ → (List Bool → Type 0) → Cut → List ℕ → ℕ → Type 0
 Packed ws P s left sum = (t : List Bool) → Branch ws P (s .chosen) t → s .weight + sum + weigh left t ≤ weigh ws t
 
+-- what a packing tells of the branch of s: a bound, and a route to go on with, or that s is a cut
 pub record Bounded (ws : List ℕ) (P : List Bool → Type 0) (s : Cut) (b : Packing) : Type 0 where
   pub fair : Fair (b .route)
   pub packed : Packed ws P s (b .left) (b .sum)

@@ -10,12 +10,12 @@ use lib.Dec.{T, eqb, leb, ltb}
 use lib.ListN.{length}
 use Rattle.fence.specs.Demands.{Demand2, Run}
 use Rattle.fence.specs.Outcome.{Reads, RunOutcome, fencedFile, over, withGraph}
-use Rattle.fence.specs.Samples.{FileClaim, RunsTo, request}
+use Rattle.fence.specs.Samples.{FileClaim, RunsTo}
 use Rattle.graph.specs.Graph.{no-graph}
 use Rattle.graph.specs.Limits.{most-edges, most-nodes}
 use Rattle.graph.specs.Samples.{Claim, D-of, D-orders, D-rules, Sample, asked, fence-rules, more-samples, not-off, off, or, ran, samples}
 use Rattle.graph.specs.Written.{written}
-use Rattle.request.specs.File.{Request, bytes}
+use Rattle.request.specs.File.{Request, bytes, request}
 use Rattle.request.specs.Layout.{edgesIn, endCheck, limitsOf, nodesIn, ordersIn, recordAt, rulesIn, run}
 use Rattle.request.specs.Pick.{any, earliestFrom}
 use Rattle.request.specs.Tables.{badEdge, badLeft, badNode, badOrder, badRight, badRule, edgesFrom, fencesFrom, leads, listed, nodesFrom, ordersFrom, readingOf, repeated, rulesFrom, samePair}

@@ -25,6 +25,7 @@ pub record Run (s : List ℕ) (q : Request) (c t : List ℕ) : Type 0 where
   pub edges : length (q .graph .edges) + length c ≤ most-edges
   pub file : t ≡ fencedFile q c
 
+-- demand 2, of an accepted run
 pub record Demand2 (s : List ℕ) (q : Request) (c t : List ℕ) : Type 0 where
   -- the chosen cut is the only one
   pub only : (d : List ℕ) → ChosenCut (q .graph) (q .rules) (q .orders) d → d ≡ c
@@ -41,6 +42,7 @@ pub data Runs (rules : List Rule) : Graph → List (List Order) → Graph → Ty
   none : {g : Graph} → Runs rules g [] g
   run : {later : List (List Order)} {h : Graph} (s : List ℕ) (q : Request) (c t : List ℕ) → Run s q c t → q .rules ≡ rules → Runs rules (written (q .graph) c) later h → Runs rules (q .graph) (q .orders ∷ later) h
 
+-- demand 3, of the first and the last graph of a sequence of runs
 pub record Demand3 (first : Graph) (rules : List Rule) (asked : List (List Order)) (last : Graph) : Type 0 where
   -- "every order asked in any of them is held at the end"
   pub held : (o : Order) → AskedIn o asked → Held last rules o

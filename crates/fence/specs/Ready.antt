@@ -5,6 +5,7 @@ use Rattle.request.specs.Proper.{Proper}
 use Rattle.request.specs.Write.{requestIn}
 use Rattle.graph.specs.declared.Graph as Value
 
+-- a proper request, within the limits, in arrays of full length
 pub record Ready (g : Value.Graph) : Type 0 where
   pub proper : Proper (requestIn g)
   pub sized : Sized g

@@ -4,17 +4,12 @@ use mathlib.Core.List.{List, List·Memᴰ}
 use Prim.Native.Nat.{_≤_, ℕ}
 use lib.ListN.{length}
 use Rattle.graph.specs.declared.Order.{Order}
-use Rattle.graph.specs.declared.Rule.{Rule}
 use Rattle.request.specs.declared.Answer.the-variants.{NotLoose}
 use Rattle.fence.specs.Outcome.{AskOutcome, RunOutcome, StripOutcome, fencedFile, over, refusal}
-use Rattle.graph.specs.Graph.{Graph}
 use Rattle.graph.specs.Held.{Held}
 use Rattle.graph.specs.Limits.{most-nodes}
 use Rattle.graph.specs.Samples.{Sample, asked, not-off, off, ran}
-use Rattle.request.specs.File.{Request, bytes}
-
-abbrev pub request : Graph → List Rule → List Order → Request
-request g rules orders = record { graph = g; rules = rules; orders = orders }
+use Rattle.request.specs.File.{Request, bytes, request}
 
 -- run on the file s is accepted, with so many fences of that weight, and writes the file t, wherever the buffer is long enough
 abbrev pub RunsTo : List ℕ → (fences : ℕ) → (weight : ℕ) → List ℕ → Type 0

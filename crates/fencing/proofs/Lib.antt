@@ -2,7 +2,6 @@
 pub mod Flags
 pub mod Placed
 pub mod Along
-pub mod Scan
 pub mod Tops
 pub mod Going
 pub mod Named

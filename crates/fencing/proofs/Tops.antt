@@ -8,7 +8,8 @@ use native.Mathlib.Omega.{arith}
 use lib.ListN.{length}
 use Rattle.graph.specs.declared.Label.{Label}
 use Rattle.graph.specs.declared.Label.the-variants.{Fence, Load, Store}
-use Rattle.fencing.specs.Left.{Next, Top, loose, tight, fenceb}
+use Rattle.fencing.specs.Left.{Top, loose, tight, fenceb}
+use Rattle.graph.specs.Scan.{FirstFrom}
 use Rattle.graph.specs.Fit.{agree}
 use Rattle.graph.specs.Graph.{Graph, edge, label}
 use Rattle.graph.specs.Strip.{Loose}
@@ -37,7 +38,7 @@ module _ (h : Graph) (m : ℕ) (edges : length (h .edges) ≡ m) where
     pub none-fence : (label h v ≡ Fence → ⊥) → Top h m
     none-fence f = denied (λ i x. f (x .is-fence))
 
-    module _ (i : ℕ) (ends : Next (λ j. (edge h j) .to ≡ v) 0 m i) where
+    module _ (i : ℕ) (ends : FirstFrom (λ j. (edge h j) .to ≡ v) 0 m i) where
       same : (k : ℕ) → Loose h v k l → k ≡ i
       same k x = go (ℕ-discrete k i) (ℕ-discrete i m)
         where
@@ -51,11 +52,11 @@ module _ (h : Graph) (m : ℕ) (edges : length (h .edges) ≡ m) where
       pub none-end : l ≤ i → Top h m
       none-end b = denied (λ k x. let z : ⊥ = omega (arith, x .two, same k x) in z)
 
-      module _ (low : i < l) (j : ℕ) (more : Next (λ j. (edge h j) .to ≡ v) (i + 1) m j) where
+      module _ (low : i < l) (j : ℕ) (more : FirstFrom (λ j. (edge h j) .to ≡ v) (i + 1) m j) where
         pub none-more : j < m → Top h m
         none-more b = denied (λ k x. let e : j ≡ k = x .ends-only j (omega arith) (more .here b) in let z : ⊥ = omega (arith, same k x, more .low) in z)
 
-        module _ (all : m ≤ j) (b : ℕ) (starts : Next (λ j. (edge h j) .from ≡ v) 0 m b) where
+        module _ (all : m ≤ j) (b : ℕ) (starts : FirstFrom (λ j. (edge h j) .from ≡ v) 0 m b) where
           pub none-start : (b ≡ l → ⊥) → Top h m
           none-start f = denied (λ k x. go k x (ℕ-discrete b m))
             where
@@ -67,7 +68,7 @@ module _ (h : Graph) (m : ℕ) (edges : length (h .edges) ≡ m) where
             pub none-weight : ((edge h i) .weight ≡ (edge h l) .weight → ⊥) → Top h m
             none-weight f = denied (λ k x. f (ap (λ (k : ℕ). (edge h k) .weight) (sym (same k x)) ∙ x .agree))
 
-            module _ (agree : (edge h i) .weight ≡ (edge h l) .weight) (p : ℕ) (pair : Next (λ j. ((edge h j) .from ≡ (edge h i) .from) × ((edge h j) .to ≡ (edge h l) .to)) 0 m p) where
+            module _ (agree : (edge h i) .weight ≡ (edge h l) .weight) (p : ℕ) (pair : FirstFrom (λ j. ((edge h j) .from ≡ (edge h i) .from) × ((edge h j) .to ≡ (edge h l) .to)) 0 m p) where
               pub none-new : p < m → Top h m
               none-new d = denied (λ k x. x .new p (omega arith) (pair .here d .0 ∙ ap (λ (k : ℕ). (edge h k) .from) (sym (same k x))) (pair .here d .1))
 

@@ -12,17 +12,11 @@ use Rattle.graph.specs.Graph.{Graph, no-edge}
 use Rattle.graph.specs.Strip.{Loose, Stripped}
 use Rattle.graph.specs.declared.Graph as Value
 
+-- the label is a fence
 abbrev pub fenceb : Label → Bool
 fenceb (Store a) = false
 fenceb (Load a) = false
 fenceb Fence = true
-
--- r is the first number from lo on, below n, with P; n where there is none
-pub record Next (P : ℕ → Type 0) (lo n r : ℕ) : Type 0 where
-  pub low : lo ≤ r
-  pub high : r ≤ n
-  pub none : (j : ℕ) → lo ≤ j → j < r → P j → ⊥
-  pub here : r < n → P r
 
 -- the highest node is loose, r being the edge that ends there; or no node is
 pub data Top (g : Graph) (r : ℕ) : Type 0 where

@@ -12,7 +12,8 @@ ghost use Rattle.graph.specs.Limits.{most-edges, most-orders};
 ghost use Rattle.graph.specs.Strip.{AllName};
 ghost use Rattle.graph.specs.Value.{graphOf, Sized, Roomy};
 ghost use Rattle.fencing.specs.Kept.{Kept};
-ghost use Rattle.fencing.specs.Left.{fenceb, Next, Top, Rejoined, Off};
+ghost use Rattle.fencing.specs.Left.{fenceb, Top, Rejoined, Off};
+ghost use Rattle.graph.specs.Scan.{FirstFrom};
 
 // What is left of a graph, and the weights of the pairs rejoined.
 pub struct Left {
@@ -33,7 +34,7 @@ fn is_fence(l: Label) -> bool
 // The first of n edges, from lo on, that ends at v.
 pub fn next_end(edges: [Edge; Graph::EDGES], n: usize, v: usize, lo: usize) -> usize
     requires { ⌜ (lo ≤ n) × (n ≤ most-edges) ⌝ }
-    ensures { λ r. ⌜ Next (λ j. (getD (take n edges) j no-edge) .to ≡ v) lo n r ⌝ }
+    ensures { λ r. ⌜ FirstFrom (λ j. (getD (take n edges) j no-edge) .to ≡ v) lo n r ⌝ }
 {
     let mut i = lo;
     while i < n {
@@ -49,7 +50,7 @@ pub fn next_end(edges: [Edge; Graph::EDGES], n: usize, v: usize, lo: usize) -> u
 // The first of n edges that starts at v.
 pub fn first_start(edges: [Edge; Graph::EDGES], n: usize, v: usize) -> usize
     requires { ⌜ n ≤ most-edges ⌝ }
-    ensures { λ r. ⌜ Next (λ j. (getD (take n edges) j no-edge) .from ≡ v) 0 n r ⌝ }
+    ensures { λ r. ⌜ FirstFrom (λ j. (getD (take n edges) j no-edge) .from ≡ v) 0 n r ⌝ }
 {
     let mut i = 0;
     while i < n {
@@ -65,7 +66,7 @@ pub fn first_start(edges: [Edge; Graph::EDGES], n: usize, v: usize) -> usize
 // The first of n edges from a to b.
 fn first_pair(edges: [Edge; Graph::EDGES], n: usize, a: u16, b: u16) -> usize
     requires { ⌜ n ≤ most-edges ⌝ }
-    ensures { λ r. ⌜ Next (λ j. ((getD (take n edges) j no-edge) .from ≡ a) × ((getD (take n edges) j no-edge) .to ≡ b)) 0 n r ⌝ }
+    ensures { λ r. ⌜ FirstFrom (λ j. ((getD (take n edges) j no-edge) .from ≡ a) × ((getD (take n edges) j no-edge) .to ≡ b)) 0 n r ⌝ }
 {
     let mut i = 0;
     while i < n {

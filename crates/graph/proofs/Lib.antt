@@ -18,5 +18,6 @@ pub mod Joined
 pub mod Runs
 pub mod Members
 pub mod Value
+pub mod Scan
 pub mod Demands
 pub mod Samples

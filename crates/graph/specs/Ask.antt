@@ -8,7 +8,7 @@ use Rattle.graph.specs.Graph.{Graph}
 use Rattle.graph.specs.Held.{Route, Orders, HeldWithout}
 use Rattle.graph.specs.Cut.{First}
 
--- the nodes of a route
+-- "its nodes": those of a route, both ends counted
 abbrev pub along : ℕ → List ℕ → ℕ → List ℕ
 along a between b = a ∷ between ++ (b ∷ [])
 
@@ -23,6 +23,6 @@ pub data AskedWithout (g : Graph) (rules : List Rule) (c : List ℕ) (a b : ℕ)
   is-held : HeldWithout g rules c a b → AskedWithout g rules c a b []
   is-open : {between : List ℕ} → ShownWithout g rules c a between b → AskedWithout g rules c a b (along a between b)
 
--- ask's own edges to avoid are none
+-- "says whether one order is held, and shows a route where it isn't": on all edges, none left out
 abbrev pub Asked : Graph → List Rule → Order → List ℕ → Type 0
 Asked g rules o route = AskedWithout g rules [] (o .first) (o .second) route

@@ -36,6 +36,7 @@ pub record Cut (g : Graph) (rules : List Rule) (orders : List Order) (c : List �
   pub rising : Rising 0 (length (g .edges)) c
   pub separates : Separates g rules orders c
 
+-- "the sum of": what w gives for each of these, added up
 abbrev pub total : (ℕ → ℕ) → List ℕ → ℕ
 total w [] = 0
 total w (i ∷ c) = w i + total w c

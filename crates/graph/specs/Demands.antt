@@ -12,6 +12,7 @@ use Rattle.graph.specs.Cut.{ChosenCut, weight}
 use Rattle.graph.specs.Written.{written}
 use Rattle.graph.specs.Strip.{AllName, StripTo}
 
+-- demand 2, of a graph and its chosen cut
 pub record Demand2 (g : Graph) (rules : List Rule) (orders : List Order) (c : List ℕ) : Type 0 where
   -- the chosen cut is the only one
   pub only : (d : List ℕ) → ChosenCut g rules orders d → d ≡ c
@@ -26,10 +27,11 @@ pub data Runs (rules : List Rule) : Graph → List (List Order) → Graph → Ty
   none : {g : Graph} → Runs rules g [] g
   run : {g h : Graph} {orders : List Order} {later : List (List Order)} (c : List ℕ) → ChosenCut g rules orders c → Runs rules (written g c) later h → Runs rules g (orders ∷ later) h
 
--- asked in one of the runs
+-- "asked in any of them"
 abbrev pub AskedIn : Order → List (List Order) → Type 0
 AskedIn o asked = (orders : List Order) × List·Memᴰ orders asked × List·Memᴰ o orders
 
+-- demand 3, of the first graph and the last
 pub record Demand3 (g : Graph) (rules : List Rule) (asked : List (List Order)) (h : Graph) : Type 0 where
   -- "every order asked in any of them is held at the end"
   pub held : (o : Order) → AskedIn o asked → Held h rules o

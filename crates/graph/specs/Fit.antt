@@ -36,6 +36,7 @@ Ruled rules p q = (r : Rule) × List·Memᴰ r rules × Fits r p q
 
 -- ---- the tests that decide them
 
+-- "its sides match them": what a side asks of the assignment, for this label
 abbrev pub wantOf : Side → Label → Want
 wantOf Any l = Free
 wantOf (Is (Store x)) (Store a) = Var x a
@@ -48,10 +49,12 @@ wantOf (Is Fence) (Store a) = Never
 wantOf (Is Fence) (Load a) = Never
 wantOf (Is Fence) Fence = Free
 
+-- the second, if the first is so
 abbrev pub ifSame : Bool → Bool → Bool
 ifSame true b = b
 ifSame false b = true
 
+-- "under one assignment": one variable has one address; "Variables 1 and 2 may have the same address."
 abbrev pub agree : Want → Want → Bool
 agree Never b = false
 agree Free Never = false
@@ -61,6 +64,7 @@ agree (Var x m) Never = false
 agree (Var x m) Free = true
 agree (Var x m) (Var y n) = ifSame (eqb x y) (eqb m n)
 
+-- "A rule fits two labels", as a test
 abbrev pub fitOf : Rule → Label → Label → Bool
 fitOf r p q = agree (wantOf (r .left) p) (wantOf (r .right) q)
 
@@ -70,5 +74,6 @@ module _ {A : Type 0} where
   someb f [] = false
   someb f (x ∷ xs) = f x || someb f xs
 
+-- "some rule fits their labels", as a test
 abbrev pub ruledb : List Rule → Label → Label → Bool
 ruledb rules p q = someb (λ r. fitOf r p q) rules

@@ -19,13 +19,15 @@ pub record Graph : Type 0 where
 abbrev pub no-graph : Graph
 no-graph = record { nodes = []; edges = [] }
 
--- past the nodes it reads as a fence, so that a fence put in at the end changes no label
+-- "a node carries what it does": its label. Past the nodes it reads as a fence, so that a fence put in at the end changes no label
 abbrev pub label : Graph → ℕ → Label
 label g x = getD (g .nodes) x Fence
 
+-- read past the last edge
 abbrev pub no-edge : Edge
 no-edge = record { from = 0; to = 0; weight = 0 }
 
+-- "edges .. are numbered from 0 in file order": edge i
 abbrev pub edge : Graph → ℕ → Edge
 edge g i = getD (g .edges) i no-edge
 
@@ -34,9 +36,11 @@ pub record Sound (g : Graph) : Type 0 where
   pub ends : (i : ℕ) → i < length (g .edges) → ((edge g i) .from < length (g .nodes)) × ((edge g i) .to < length (g .nodes)) × (1 ≤ (edge g i) .weight)
   pub pairs : (i j : ℕ) → i < length (g .edges) → j < length (g .edges) → (edge g i) .from ≡ (edge g j) .from → (edge g i) .to ≡ (edge g j) .to → i ≡ j
 
+-- read past the last order
 abbrev pub no-order : Order
 no-order = record { first = 0; second = 0 }
 
+-- "orders are numbered from 0 in file order": order i
 abbrev pub order : List Order → ℕ → Order
 order orders i = getD orders i no-order
 

@@ -11,3 +11,4 @@ pub mod Demands
 pub mod Samples
 pub mod Limits
 pub mod Value
+pub mod Scan

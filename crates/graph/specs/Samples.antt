@@ -16,31 +16,39 @@ use Rattle.graph.specs.Held.{Held}
 use Rattle.graph.specs.Strip.{StripTo}
 use Rattle.graph.specs.Written.{written}
 
+-- a rule from one side to the other
 abbrev pub rule : Side → Side → Rule
 rule l r = record { left = l; right = r }
 
+-- the edge (j, k) of weight w
 abbrev pub ed : ℕ → ℕ → ℕ → Edge
 ed j k w = record { from = j; to = k; weight = w }
 
+-- the order (a, b)
 abbrev pub or : ℕ → ℕ → Order
 or a b = record { first = a; second = b }
 
+-- "only the two fence rules"
 abbrev pub fence-rules : List Rule
 fence-rules = rule Any (Is Fence) ∷ rule (Is Fence) Any ∷ []
 
+-- "wildcard to fence, fence to wildcard, store 1 to store 2, load 1 to load 2"
 abbrev pub D-rules : List Rule
 D-rules = rule Any (Is Fence) ∷ rule (Is Fence) Any ∷ rule (Is (Store 1)) (Is (Store 2)) ∷ rule (Is (Load 1)) (Is (Load 2)) ∷ []
 
--- D, with its first edge of weight w
+-- "Graph D: nodes 0 store 7, 1 store 9, 2 load 7, 3 load 9", with its first edge of weight w
 abbrev pub D-of : ℕ → Graph
 D-of w = record { nodes = Store 7 ∷ Store 9 ∷ Load 7 ∷ Load 9 ∷ []; edges = ed 0 1 w ∷ ed 1 2 1 ∷ ed 1 3 1 ∷ [] }
 
+-- "orders (0,2), (0,3), (0,1)"
 abbrev pub D-orders : List Order
 D-orders = or 0 2 ∷ or 0 3 ∷ or 0 1 ∷ []
 
+-- "Diamond: 0 store 1, 1 store 2, 2 fence, 3 load 3; edges (0,1), (1,3), (0,2), (2,3) of weight 1"
 abbrev pub diamond : Graph
 diamond = record { nodes = Store 1 ∷ Store 2 ∷ Fence ∷ Load 3 ∷ []; edges = ed 0 1 1 ∷ ed 1 3 1 ∷ ed 0 2 1 ∷ ed 2 3 1 ∷ [] }
 
+-- "Loop: store 1, store 2, load 3; edges (0,1), (1,0), (1,2) of weight 1"
 abbrev pub loop : Graph
 loop = record { nodes = Store 1 ∷ Store 2 ∷ Load 3 ∷ []; edges = ed 0 1 1 ∷ ed 1 0 1 ∷ ed 1 2 1 ∷ [] }
 
@@ -55,6 +63,7 @@ pub data Sample : Type 0 where
   -- an order names a node that would go
   not-off : (count : ℕ) → List Rule → List Order → Graph → Sample
 
+-- what a sample claims, of the definitions
 abbrev pub Claim : Sample → Type 0
 Claim (ran g rules orders held cut total) =
     Sound g × ((o : Order) → List·Memᴰ o held → Held g rules o) × ChosenCut g rules orders cut × (weight g cut ≡ total)
@@ -62,6 +71,7 @@ Claim (asked g rules orders number route) = Sound g × Asked g rules (order orde
 Claim (off count rules orders g cut total) = StripTo count orders (written g cut) total g
 Claim (not-off count rules orders g) = (total : ℕ) (left : Graph) → ¬ StripTo count orders g total left
 
+-- P1 to P12
 abbrev pub samples : List Sample
 samples =
     ran (D-of 3) D-rules D-orders (or 0 1 ∷ []) (1 ∷ 2 ∷ []) 2  -- P1

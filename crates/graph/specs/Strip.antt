@@ -8,7 +8,7 @@ use Rattle.graph.specs.declared.Label.the-variants.{Fence}
 use Rattle.graph.specs.declared.Order.{Order}
 use Rattle.graph.specs.Graph.{Graph, label, edge}
 
--- v is the highest node, m the last edge, and v can be taken off edge i
+-- "the highest node", v, can be taken off edge i; m is "the last edge"
 pub record Loose (g : Graph) (v i m : ℕ) : Type 0 where
   pub highest : length (g .nodes) ≡ suc v
   pub last : length (g .edges) ≡ suc m
@@ -37,11 +37,11 @@ pub data Stripped : Graph → ℕ → Graph → Type 0 where
   done : {g : Graph} → Stripped g 0 g
   take-off : {g h : Graph} {total : ℕ} (v i m : ℕ) → Loose g v i m → Stripped (joined g v i m) total h → Stripped g ((edge g i) .weight + total) h
 
--- both nodes of the order are below n
+-- "no order names a node numbered c or more": this one doesn't
 abbrev pub Names : ℕ → Order → Type 0
 Names n o = (o .first < n) × (o .second < n)
 
--- each of the orders does
+-- "no order names a node numbered c or more": none of these does
 abbrev pub AllName : ℕ → List Order → Type 0
 AllName n orders = (o : Order) → List·Memᴰ o orders → Names n o
 

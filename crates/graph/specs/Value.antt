@@ -14,16 +14,20 @@ use Rattle.graph.specs.Held.{Held, Open}
 use Rattle.graph.specs.Limits.{most-nodes, most-edges, most-rules, most-orders}
 use Rattle.graph.specs.declared.Graph as Value
 
+-- "In the library a node carries what it does, and to which address if any": what each carries
 abbrev pub labels : List Node → List Label
 labels [] = []
 labels (n ∷ ns) = n .label ∷ labels ns
 
+-- the nodes and edges counted
 abbrev pub graphOf : Value.Graph → Graph
 graphOf g = record { nodes = labels (take (g .«node_count») (g .nodes)); edges = take (g .«edge_count») (g .edges) }
 
+-- the rules counted
 abbrev pub rulesOf : Value.Graph → List Rule
 rulesOf g = take (g .«rule_count») (g .rules)
 
+-- the orders counted
 abbrev pub ordersOf : Value.Graph → List Order
 ordersOf g = take (g .«order_count») (g .orders)
 

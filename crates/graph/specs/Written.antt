@@ -21,7 +21,7 @@ abbrev pub written : Graph → List ℕ → Graph
 written g [] = g
 written g (i ∷ c) = written (fenced g i) c
 
--- what refusal 7 asks for: wildcard to fence and fence to wildcard are among the rules
+-- "wildcard to fence, or fence to wildcard, isn't among the rules" is refusal 7: here both are
 pub record FenceRules (rules : List Rule) : Type 0 where
   pub to-fence : List·Memᴰ (record { left = Any; right = (Is Fence) }) rules
   pub from-fence : List·Memᴰ (record { left = (Is Fence); right = Any }) rules

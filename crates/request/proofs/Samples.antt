@@ -11,15 +11,12 @@ use Rattle.request.specs.declared.Answer.the-variants.{BadOrder, NoFence
 use Rattle.request.specs.declared.Reading.the-variants.{Refused}
 use Rattle.graph.specs.Graph.{Graph}
 use Rattle.graph.specs.Samples.{D-of, D-orders, D-rules, fence-rules, or}
-use Rattle.request.specs.File.{Request, bytes}
+use Rattle.request.specs.File.{Request, bytes, request}
 use Rattle.request.specs.Layout.{edgesIn, endCheck, limitsOf, nodesIn, ordersIn, recordAt, rulesIn, run}
 use Rattle.request.specs.Outcome.{Answered}
 use Rattle.request.specs.Pick.{any, earliestFrom}
 use Rattle.request.specs.Tables.{badEdge, badLeft, badNode, badOrder, badRight, badRule, edgesFrom, fencesFrom, leads, listed, nodesFrom, ordersFrom, readingOf, repeated, rulesFrom, samePair}
 use Rattle.request.proofs.Computed.{read-as}
-
-abbrev request : Graph → List Rule → List Order → Request
-request g rules orders = record { graph = g; rules = rules; orders = orders }
 
 abbrev D : Request
 D = request (D-of 3) D-rules D-orders

@@ -13,9 +13,11 @@ use Rattle.request.specs.declared.Answer.{Answer}
 use Rattle.request.specs.declared.Answer.the-variants.{Unreadable, TooMany, BadNode, BadEdge, BadRule, BadOrder, NoFenceRules}
 use Rattle.request.specs.Raw.{RawNode, RawRule, Raw, laid, size, file}
 
+-- read past the last node
 abbrev pub no-node : RawNode
 no-node = record { kind = 0; address = 0 }
 
+-- read past the last rule
 abbrev pub no-rule : RawRule
 no-rule = record { left = 0; left-variable = 0; right = 0; right-variable = 0 }
 
@@ -34,13 +36,15 @@ pub record Unread (s : List ℕ) (p : ℕ) : Type 0 where
 abbrev pub Listed : ℕ → ℕ → (ℕ → Type 0) → ℕ → Type 0
 Listed start n Wrong p = (i : ℕ) × (i < n) × Wrong i × (p ≡ start + i)
 
--- the number of the first record of each mark, ND's being 0
+-- the record number of the first edge; that of the first node is 0
 abbrev pub first-edge : Raw → ℕ
 first-edge w = length (w .nodes)
 
+-- the first of the rules
 abbrev pub first-rule : Raw → ℕ
 first-rule w = length (w .nodes) + length (w .edges)
 
+-- the first of the orders
 abbrev pub first-order : Raw → ℕ
 first-order w = length (w .nodes) + length (w .edges) + length (w .rules)
 
@@ -75,6 +79,7 @@ WrongRight r =
     ⊎ (((r .right < 2) × ((r .right-variable ≢ 1) × ((r .right-variable ≢ 2) ⊎ (2 ≤ r .left))))
     ⊎ ((2 ≤ r .right) × (r .right-variable ≢ 0)))
 
+-- 5: one of its sides is wrong
 abbrev pub WrongRule : RawRule → Type 0
 WrongRule r = WrongLeft r ⊎ WrongRight r
 

@@ -21,16 +21,19 @@ use Rattle.request.specs.Raw.{RawNode, RawRule, Raw}
 use Rattle.request.specs.Pick.{pick}
 use Rattle.request.specs.Tables.{word, edgesAt, rulesAt, ordersAt}
 
--- the record at an offset
+-- the record at an offset. ND: kind, address
 abbrev pub nodeAt : List ℕ → ℕ → RawNode
 nodeAt s at = record { kind = getD s (at + 2) 0; address = getD s (at + 3) 0 }
 
+-- ED: from, to, weight
 abbrev pub edgeAt : List ℕ → ℕ → Edge
 edgeAt s at = record { from = word s (at + 2); to = word s (at + 4); weight = word s (at + 6) }
 
+-- RU: a kind and a variable for each side
 abbrev pub ruleAt : List ℕ → ℕ → RawRule
 ruleAt s at = record { left = getD s (at + 2) 0; left-variable = getD s (at + 3) 0; right = getD s (at + 4) 0; right-variable = getD s (at + 5) 0 }
 
+-- OR: first, second
 abbrev pub orderAt : List ℕ → ℕ → Order
 orderAt s at = record { first = word s (at + 2); second = word s (at + 4) }
 
@@ -39,6 +42,7 @@ unfoldable pub table : {X : Type 0} → (List ℕ → ℕ → X) → ℕ → Lis
 table dec z s at zero = []
 table dec z s at (suc n) = dec s at ∷ table dec z s (at + z) n
 
+-- all records, as many of each mark as counted
 abbrev pub rawOf : List ℕ → Counts → Raw
 rawOf s cs = record {
   nodes = table nodeAt 4 s 0 (cs .nodes);
@@ -51,12 +55,15 @@ rawOf s cs = record {
 abbrev pub labelOf : ℕ → ℕ → Label
 labelOf kind address = pick (eqb kind 0) (Store address) (pick (eqb kind 1) (Load address) Fence)
 
+-- "3 is the wildcard and stands only in rules"
 abbrev pub sideOf : ℕ → ℕ → Side
 sideOf kind variable = pick (eqb kind 3) Any (Is (labelOf kind variable))
 
+-- the label of a node record
 abbrev pub label-of : RawNode → Label
 label-of n = labelOf (n .kind) (n .address)
 
+-- the rule of a rule record
 abbrev pub rule-of : RawRule → Rule
 rule-of r = record { left = sideOf (r .left) (r .left-variable); right = sideOf (r .right) (r .right-variable) }
 
@@ -64,15 +71,19 @@ rule-of r = record { left = sideOf (r .left) (r .left-variable); right = sideOf 
 abbrev pub nodeIn : List ℕ → ℕ → Node
 nodeIn s at = record { label = label-of (nodeAt s at) }
 
+-- the rule at an offset
 abbrev pub ruleIn : List ℕ → ℕ → Rule
 ruleIn s at = rule-of (ruleAt s at)
 
+-- the request that the records say
 abbrev pub understood : Raw → Request
 understood w = record { graph = record { nodes = map label-of (w .nodes); edges = w .edges }; rules = map rule-of (w .rules); orders = w .orders }
 
+-- the request that a file says, its records being so many
 abbrev pub requestOf : List ℕ → Counts → Request
 requestOf s cs = understood (rawOf s cs)
 
+-- how many records of each mark there are
 abbrev pub countsOfRaw : Raw → Counts
 countsOfRaw w = record { nodes = length (w .nodes); edges = length (w .edges); rules = length (w .rules); orders = length (w .orders) }
 
@@ -82,10 +93,12 @@ raw-label (Store a) = record { kind = 0; address = a }
 raw-label (Load a) = record { kind = 1; address = a }
 raw-label Fence = record { kind = 2; address = 0 }
 
+-- a rule side, its variable in the place of an address
 abbrev pub raw-side : Side → RawNode
 raw-side (Is l) = raw-label l
 raw-side Any = record { kind = 3; address = 0 }
 
+-- both sides of a rule
 abbrev pub raw-rule : Rule → RawRule
 raw-rule r = record {
   left = (raw-side (r .left)) .kind;
@@ -94,6 +107,7 @@ raw-rule r = record {
   right-variable = (raw-side (r .right)) .address;
 }
 
+-- the records of a request
 abbrev pub rawed : Request → Raw
 rawed r = record { nodes = map raw-label (r .graph .nodes); edges = r .graph .edges; rules = map raw-rule (r .rules); orders = r .orders }
 

@@ -18,6 +18,10 @@ pub record Request : Type 0 where
   pub rules : List Rule
   pub orders : List Order
 
+-- the request of these three
+abbrev pub request : Graph → List Rule → List Order → Request
+request g rules orders = record { graph = g; rules = rules; orders = orders }
+
 -- "Numbers are little-endian.": one of two bytes
 abbrev pub two : ℕ → List ℕ
 two n = n % 256 ∷ n / 256 ∷ []

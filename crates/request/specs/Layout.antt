@@ -21,19 +21,23 @@ unfoldable pub run : ℕ → ℕ → ℕ → List ℕ → ℕ → ℕ → ℕ
 run a b z s zero at = 0
 run a b z s (suc f) at = pick (recordAt a b z s at) (suc (run a b z s f (at + z))) 0
 
--- the counts of the records, in the order ND ED RU OR
+-- how many records of each mark a file begins with, in the order ND, ED, RU, OR
 unfoldable pub nodesIn : List ℕ → ℕ
 nodesIn s = run 78 68 4 s (length s) 0
 
+-- ED, from where the nodes end
 unfoldable pub edgesIn : List ℕ → ℕ
 edgesIn s = run 69 68 8 s (length s) (nodesIn s * 4)
 
+-- RU, from where the edges end
 unfoldable pub rulesIn : List ℕ → ℕ
 rulesIn s = run 82 85 6 s (length s) (nodesIn s * 4 + edgesIn s * 8)
 
+-- OR, from where the rules end
 unfoldable pub ordersIn : List ℕ → ℕ
 ordersIn s = run 79 82 6 s (length s) (nodesIn s * 4 + edgesIn s * 8 + rulesIn s * 6)
 
+-- the four counts together
 abbrev pub countsIn : List ℕ → Counts
 countsIn s = record { nodes = nodesIn s; edges = edgesIn s; rules = rulesIn s; orders = ordersIn s }
 
@@ -48,6 +52,7 @@ endCheck s cs =
     (pick (eqb (endOf cs + 2) (length s)) (Whole cs) (Refused Unreadable (endOf cs + 2)))
     (Refused Unreadable (endOf cs))
 
+-- answer 1, of a file
 abbrev pub layoutOf : List ℕ → Reading
 layoutOf s = endCheck s (countsIn s)
 

@@ -29,6 +29,7 @@ FormedLeft (Is (Load v)) = v ≡ 1
 FormedLeft (Is Fence) = Unit {0}
 FormedLeft Any = Unit {0}
 
+-- "A side of kind 0 or 1 has a variable"
 abbrev pub HasVariable : Side → Type 0
 HasVariable (Is (Store v)) = Unit {0}
 HasVariable (Is (Load v)) = Unit {0}
@@ -42,15 +43,18 @@ FormedRight left (Is (Load v)) = (v ≡ 1) ⊎ ((v ≡ 2) × HasVariable left)
 FormedRight left (Is Fence) = Unit {0}
 FormedRight left Any = Unit {0}
 
+-- both sides of a rule are as these sentences say
 abbrev pub Formed : Rule → Type 0
 Formed r = FormedLeft (r .left) × FormedRight (r .left) (r .right)
 
+-- a request that no refusal from 2 to 7 applies to
 pub record Proper (r : Request) : Type 0 where
   -- "Most: 64 nodes, 192 edges, 32 rules, 32 orders."
   pub few-nodes : length (r .graph .nodes) ≤ most-nodes
   pub few-edges : length (r .graph .edges) ≤ most-edges
   pub few-rules : length (r .rules) ≤ most-rules
   pub few-orders : length (r .orders) ≤ most-orders
+  -- "Stores and loads have address 0 to 255"
   pub addressed : (x : Label) → List·Memᴰ x (r .graph .nodes) → Addressed x
   -- "Edge weight is 1 to 65,535. An edge from a node to itself is allowed; the same pair (from, to) twice isn't."
   pub sound : Sound (r .graph)
@@ -59,7 +63,7 @@ pub record Proper (r : Request) : Type 0 where
   pub formed : (x : Rule) → List·Memᴰ x (r .rules) → Formed x
   -- "An order's two nodes differ, and no order stands twice."
   pub orderly : Orderly (length (r .graph .nodes)) (r .orders)
-  -- refusal 7 asks for them
+  -- "wildcard to fence, or fence to wildcard, isn't among the rules" is refusal 7
   pub fences : FenceRules (r .rules)
 
 -- how many records of each mark a request has

@@ -26,9 +26,11 @@ pub record Raw : Type 0 where
   pub rules : List RawRule
   pub orders : List Order
 
+-- ND, with its mark
 abbrev pub raw-node-bytes : RawNode → List ℕ
 raw-node-bytes n = 78 ∷ 68 ∷ n .kind ∷ n .address ∷ []
 
+-- RU, with its mark
 abbrev pub raw-rule-bytes : RawRule → List ℕ
 raw-rule-bytes r = 82 ∷ 85 ∷ r .left ∷ r .left-variable ∷ r .right ∷ r .right-variable ∷ []
 

@@ -25,23 +25,27 @@ samePair s p q = eqb (word s (p + 2)) (word s (q + 2)) && eqb (word s (p + 4)) (
 unfoldable pub repeated : List ℕ → ℕ → ℕ → ℕ → Bool
 repeated s start z i = any (λ j. samePair s (start + j * z) (start + i * z)) i
 
--- where the edges, the rules and the orders begin
+-- where the edges begin
 abbrev pub edgesAt : Counts → ℕ
 edgesAt cs = cs .nodes * 4
 
+-- the rules, after the edges
 abbrev pub rulesAt : Counts → ℕ
 rulesAt cs = cs .nodes * 4 + cs .edges * 8
 
+-- the orders, after the rules
 abbrev pub ordersAt : Counts → ℕ
 ordersAt cs = cs .nodes * 4 + cs .edges * 8 + cs .rules * 6
 
--- the fields of edge i
+-- of edge i: its first end
 abbrev pub fromOf : List ℕ → Counts → ℕ → ℕ
 fromOf s cs i = word s (edgesAt cs + i * 8 + 2)
 
+-- its second end
 abbrev pub toOf : List ℕ → Counts → ℕ → ℕ
 toOf s cs i = word s (edgesAt cs + i * 8 + 4)
 
+-- its weight
 abbrev pub weightOf : List ℕ → Counts → ℕ → ℕ
 weightOf s cs i = word s (edgesAt cs + i * 8 + 6)
 
@@ -49,10 +53,11 @@ weightOf s cs i = word s (edgesAt cs + i * 8 + 6)
 abbrev pub ruleByte : List ℕ → Counts → ℕ → ℕ → ℕ
 ruleByte s cs i k = getD s (rulesAt cs + i * 6 + k) 0
 
--- the fields of order i
+-- of order i: its first node
 abbrev pub firstOf : List ℕ → Counts → ℕ → ℕ
 firstOf s cs i = word s (ordersAt cs + i * 6 + 2)
 
+-- its second node
 abbrev pub secondOf : List ℕ → Counts → ℕ → ℕ
 secondOf s cs i = word s (ordersAt cs + i * 6 + 4)
 
@@ -73,6 +78,7 @@ unfoldable pub badRight : ℕ → ℕ → ℕ → Bool
 badRight left kind variable =
     ltb 3 kind || ((ltb kind 2 && (not (eqb variable 1) && (not (eqb variable 2) || leb 2 left))) || (leb 2 kind && not (eqb variable 0)))
 
+-- a side of rule i is bad
 unfoldable pub badRule : List ℕ → Counts → ℕ → Bool
 badRule s cs i = badLeft (ruleByte s cs i 2) (ruleByte s cs i 3) || badRight (ruleByte s cs i 2) (ruleByte s cs i 4) (ruleByte s cs i 5)
 
@@ -113,6 +119,7 @@ abbrev pub orElse : Reading → Reading → Reading
 orElse (Whole cs) r = r
 orElse (Refused a p) r = Refused a p
 
+-- a refusal stays; else what the counts say
 abbrev pub onWhole : Reading → (Counts → Reading) → Reading
 onWhole (Whole cs) f = f cs
 onWhole (Refused a p) f = Refused a p

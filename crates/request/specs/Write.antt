@@ -14,6 +14,7 @@ pub record Written (before after : List ℕ) (at end : ℕ) (xs : List ℕ) : Ty
   pub room : end ≤ length before
   pub bytes : after ≡ take at before ++ xs ++ drop end before
 
+-- the request that a graph by value holds
 abbrev pub requestIn : Value.Graph → Request
 requestIn g = record { graph = graphOf g; rules = rulesOf g; orders = ordersOf g }
 

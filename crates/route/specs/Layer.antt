@@ -11,10 +11,11 @@ use Rattle.route.specs.declared.Reach.{Reach}
 use Rattle.graph.specs.Limits.{most-nodes}
 use Rattle.route.specs.Way.{Remains}
 
--- how many nodes are not reached
+-- 1 for a node that is not reached
 abbrev pub miss : ℕ → ℕ
 miss x = elim (eqb x 255) [ true ↦ 1 | false ↦ 0 ]
 
+-- how many of these are not reached
 abbrev pub unseen : List ℕ → ℕ
 unseen [] = 0
 unseen (x ∷ l) = miss x + unseen l
@@ -35,6 +36,7 @@ pub record Layer (from to left : List ℕ) (goal : ℕ) (dist via : List ℕ) (c
   pub back : (v k : ℕ) → v < most-nodes → getD dist v 0 ≡ suc k → k < 254 → Back from to left dist v k (getD via v 0)
   pub done : (e : ℕ) → e < length from → Remains left e → (getD dist (getD to e 0) 0 < d) ⊎ ((getD dist (getD to e 0) 0 ≡ d) × (e < i)) → getD dist (getD from e 0) 0 < 255
 
+-- all nodes up to d away are reached, and no others
 abbrev pub Reached : List ℕ → List ℕ → List ℕ → ℕ → Reach → ℕ → Type 0
 Reached from to left goal r d = Layer from to left goal (r .dist) (r .via) (r .count) d d 0
 

@@ -11,6 +11,7 @@ use Rattle.graph.specs.Limits.{most-nodes}
 use Rattle.walk.specs.declared.Way.{Way}
 use Rattle.walk.specs.Words.{listed}
 
+-- the first if so, else the second
 abbrev pub pick : Bool → ℕ → ℕ → ℕ
 pick true x y = x
 pick false x y = y

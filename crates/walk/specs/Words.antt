@@ -44,6 +44,7 @@ Ends edges n = (i : ℕ) → i < n → (getD edges i no-edge .from < most-nodes)
 abbrev pub Led : List Edge → ℕ → ℕ → ℕ → Type 0
 Led edges i p q = (j : ℕ) × (j < i) × (j < length edges) × (getD edges j no-edge .from ≡ p) × (getD edges j no-edge .to ≡ q)
 
+-- the label of node p, past the nodes a fence
 abbrev pub labelAt : List Node → ℕ → Label
 labelAt ns p = getD ns p (record { label = Fence }) .label
 

@@ -7,7 +7,7 @@ use lib.ListN.{getD, take}
 use lib.Seq.{getD-take}
 use Rattle.graph.specs.declared.Edge.{Edge}
 use Rattle.graph.specs.Graph.{no-edge}
-use Rattle.fencing.proofs.Scan.{Passed, passed-none, passed-more, next-here, next-none}
+use Rattle.graph.proofs.Scan.{Passed, passed-none, passed-more, first-here, first-none}
 use borrow.Author.Needs.{needs}
 use Rattle.fencing.proofs.off.first_pair.Statement.{statement}
 use Rattle.fencing.proofs.off.first_pair.Tie as tie
@@ -38,7 +38,7 @@ returns c =
     let t = c .before .before in
     let l = t .before .before .before .before in
     let same = getD-take (l .before .args .n) (l .before .args .t1) (l .loop .i) no-edge (search needs) in
-    next-here _ _ _ _ (search needs) (search needs) (l .loop .inv .1)
+    first-here _ _ _ _ (search needs) (search needs) (l .loop .inv .1)
     (ap (λ (e : Edge). e .from) same ∙ t .if1 .taken, ap (λ (e : Edge). e .to) same ∙ c .if2 .taken)
 
 -- src/off.rt:78:9
@@ -61,7 +61,7 @@ loop-again c =
 
 -- src/off.rt:66:1
 returns-2 : tie.Need-returns-2 Inv-loop μ-loop
-returns-2 c = next-none _ _ _ _ (omega arith) (omega arith) (omega arith) (c .before .loop .inv .1)
+returns-2 c = first-none _ _ _ _ (omega arith) (omega arith) (omega arith) (c .before .loop .inv .1)
 
 pub first-pair-spec : {M : Type 1} → statement M
 first-pair-spec =

@@ -7,7 +7,7 @@ use lib.ListN.{getD}
 use Rattle.graph.specs.declared.Edge.{Edge}
 use Rattle.graph.specs.Graph.{edge}
 use Rattle.graph.specs.Value.{graphOf}
-use Rattle.fencing.specs.Left.{Next}
+use Rattle.graph.specs.Scan.{FirstFrom}
 use Rattle.graph.proofs.Value.{node-total, edge-total, edge-at, label-at}
 use Rattle.fencing.proofs.Tops.{fence-so, fence-not, none-empty, none-fence, none-end, none-more, none-start, none-weight, none-new, loose-there}
 use borrow.Author.Needs.{needs}
@@ -166,7 +166,7 @@ returns-7 c =
     let at-l = edge-at (s .args .t1) (s .args .t1 .«edge_count» - 1) (omega (arith, e1 .if1 .left)) in
     none-new (graphOf (s .args .t1)) (s .args .t1 .«edge_count») (edge-total (s .args .t1) (s .pre .0) (s .pre .1)) (s .args .t1 .«node_count» - 1) (s .args .t1 .«edge_count» - 1) (node-total (s .args .t1) (s .pre .0) (s .pre .1) ∙ omega (arith, s .pre .2)) (omega (arith, e1 .if1 .left)) (ne .next-end .result) (ne .next-end .ensures) (omega (arith, e3 .if3 .left)) (mo .next-end2 .result) (mo .next-end2 .ensures) (omega (arith, e4 .if4 .left)) (fs .first-start .result) (fs .first-start .ensures) (e5 .if5 .left)
     (ap (λ (e : Edge). e .weight) at-i ∙ e6 .if6 .left ∙ sym (ap (λ (e : Edge). e .weight) at-l)) (fp .first-pair .result)
-    (subst₂ (λ (x y : Edge). Next (λ j. ((edge (graphOf (s .args .t1)) j) .from ≡ x .from) × ((edge (graphOf (s .args .t1)) j) .to ≡ y .to)) 0 (s .args .t1 .«edge_count») (fp .first-pair .result)) (sym at-i) (sym at-l) (fp .first-pair .ensures))
+    (subst₂ (λ (x y : Edge). FirstFrom (λ j. ((edge (graphOf (s .args .t1)) j) .from ≡ x .from) × ((edge (graphOf (s .args .t1)) j) .to ≡ y .to)) 0 (s .args .t1 .«edge_count») (fp .first-pair .result)) (sym at-i) (sym at-l) (fp .first-pair .ensures))
     (c .if7 .taken)
 
 -- src/off.rt:84:1
@@ -189,7 +189,7 @@ returns-8 c =
     let at-l = edge-at (s .args .t1) (s .args .t1 .«edge_count» - 1) (omega (arith, e1 .if1 .left)) in
     loose-there (graphOf (s .args .t1)) (s .args .t1 .«edge_count») (edge-total (s .args .t1) (s .pre .0) (s .pre .1)) (s .args .t1 .«node_count» - 1) (s .args .t1 .«edge_count» - 1) (node-total (s .args .t1) (s .pre .0) (s .pre .1) ∙ omega (arith, s .pre .2)) (omega (arith, e1 .if1 .left)) (ne .next-end .result) (ne .next-end .ensures) (omega (arith, e3 .if3 .left)) (mo .next-end2 .result) (mo .next-end2 .ensures) (omega (arith, e4 .if4 .left)) (fs .first-start .result) (fs .first-start .ensures) (e5 .if5 .left)
     (ap (λ (e : Edge). e .weight) at-i ∙ e6 .if6 .left ∙ sym (ap (λ (e : Edge). e .weight) at-l)) (fp .first-pair .result)
-    (subst₂ (λ (x y : Edge). Next (λ j. ((edge (graphOf (s .args .t1)) j) .from ≡ x .from) × ((edge (graphOf (s .args .t1)) j) .to ≡ y .to)) 0 (s .args .t1 .«edge_count») (fp .first-pair .result)) (sym at-i) (sym at-l) (fp .first-pair .ensures))
+    (subst₂ (λ (x y : Edge). FirstFrom (λ j. ((edge (graphOf (s .args .t1)) j) .from ≡ x .from) × ((edge (graphOf (s .args .t1)) j) .to ≡ y .to)) 0 (s .args .t1 .«edge_count») (fp .first-pair .result)) (sym at-i) (sym at-l) (fp .first-pair .ensures))
     (label-at (s .args .t1) (s .pre .0) (s .pre .1) (s .args .t1 .«node_count» - 1) _ (omega (arith, s .pre .2)) ∙ fence-so _ (sym (f .is-fence .ensures) ∙ not-false _ (e2 .if2 .left)))
     (omega (arith, c .if7 .left))
 

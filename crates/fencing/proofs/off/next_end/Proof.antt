@@ -6,7 +6,7 @@ use lib.ListN.{getD, take}
 use lib.Seq.{getD-take}
 use Rattle.graph.specs.declared.Edge.{Edge}
 use Rattle.graph.specs.Graph.{no-edge}
-use Rattle.fencing.proofs.Scan.{Passed, passed-none, passed-more, next-here, next-none}
+use Rattle.graph.proofs.Scan.{Passed, passed-none, passed-more, first-here, first-none}
 use borrow.Author.Needs.{needs}
 use Rattle.fencing.proofs.off.next_end.Statement.{statement}
 use Rattle.fencing.proofs.off.next_end.Tie as tie
@@ -39,7 +39,7 @@ cast-if1 c = search needs
 returns : tie.Need-returns Inv-loop μ-loop
 returns c =
     let l = c .before .before .before .before in
-    next-here _ _ _ _ (l .loop .inv .0) (search needs) (l .loop .inv .2)
+    first-here _ _ _ _ (l .loop .inv .0) (search needs) (l .loop .inv .2)
     (ap (λ (e : Edge). e .to) (getD-take (l .before .args .n) (l .before .args .t1) (l .loop .i) no-edge (search needs)) ∙ c .if1 .taken)
 
 -- src/off.rt:44:9
@@ -62,7 +62,7 @@ loop-again c =
 
 -- src/off.rt:34:1
 returns-2 : tie.Need-returns-2 Inv-loop μ-loop
-returns-2 c = next-none _ _ _ _ (omega arith) (omega arith) (omega arith) (c .before .loop .inv .2)
+returns-2 c = first-none _ _ _ _ (omega arith) (omega arith) (omega arith) (c .before .loop .inv .2)
 
 pub next-end-spec : {M : Type 1} → statement M
 next-end-spec =
