@@ -49,7 +49,7 @@ pub record Filled (from to ws firsts seconds : List ℕ) (s : Cut) (left : List 
   pub none : first .len ≡ 0 → Unspent ws (s .chosen) left × ((k : ℕ) → k < i → Parts from to (getD firsts k 0) (getD seconds k 0) (s .chosen))
   pub next : 0 < first .len → Next ws (Apart from to firsts seconds) (s .chosen) first
 
-module _ (from to ws firsts seconds : List ℕ) (kn : Known from to ws firsts seconds) where
+module _ (from to links ws firsts seconds : List ℕ) (kn : Known from to links ws firsts seconds) where
   abbrev P : List Bool → Type 0
   P = Apart from to firsts seconds
 

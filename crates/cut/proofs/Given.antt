@@ -21,7 +21,7 @@ use Rattle.graph.specs.Graph.{Sound, Orderly, no-edge, order, no-order}
 use Rattle.graph.specs.Held.{Held, Open}
 use Rattle.graph.specs.Limits.{most-nodes, most-edges, most-orders}
 use Rattle.graph.specs.Value.{labels, graphOf, rulesOf, ordersOf, Sized, Told}
-use Rattle.route.specs.Way.{Net}
+use Rattle.route.specs.Way.{Linked, Net}
 use Rattle.cut.proofs.Drawn.{Drawn, lent, lent-long, lent-at, copied-drawn, drawn-net}
 use Rattle.cut.proofs.Facts.{bool}
 use Rattle.cut.proofs.Separated.{Asks, chosen-of, weight-of}
@@ -118,9 +118,10 @@ module _ (g : Value.Graph) (sized : Sized g) where
         pub given-net : Net (lent (g .«edge_count») xs) (lent (g .«edge_count») ys)
         given-net = drawn-net (graphOf g) (lent (g .«edge_count») xs) (lent (g .«edge_count») ys) (lent (g .«edge_count») ws) sound nodes-few edges-few drawn
 
-        pub given-known : Known (lent (g .«edge_count») xs) (lent (g .«edge_count») ys) (lent (g .«edge_count») ws) (lent n us) (lent n vs)
-        given-known = record {
+        pub given-known : (links : List ℕ) → Linked (lent (g .«edge_count») ys) links 0 → Known (lent (g .«edge_count») xs) (lent (g .«edge_count») ys) links (lent (g .«edge_count») ws) (lent n us) (lent n vs)
+        given-known links linked = record {
           net = given-net;
+          linked = linked;
           weights = drawn .long .2 ∙ sym (drawn .long .0);
           some = λ e h. let l : e < length (graphOf g .edges) = omega (arith, drawn .long .2) in omega (arith, drawn .each e l .2, sound .ends e l .2);
           orders = omega (arith, firsts-long, pairs-few);

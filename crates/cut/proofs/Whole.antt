@@ -40,7 +40,7 @@ fill-out zero (suc n) (suc e) h = fill-out zero n e (omega arith)
 fill-out (suc m) (suc n) zero h = absurd (omega arith)
 fill-out (suc m) (suc n) (suc e) h = fill-out m n e (omega arith)
 
-module _ (from to ws firsts seconds : List ℕ) (kn : Known from to ws firsts seconds) where
+module _ (from to links ws firsts seconds : List ℕ) (kn : Known from to links ws firsts seconds) where
   apart : Apart from to firsts seconds (fill (length ws) most-edges)
   apart i h [] w = kn .ends i h .2 w
   apart i h (e ∷ es) w = true-false (fill-in (length ws) most-edges e (omega (arith, kn .weights, kn .net .few)) (omega (arith, kn .weights, w .0))) (w .2)

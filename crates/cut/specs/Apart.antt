@@ -7,15 +7,16 @@ use mathlib.Core.Path.{_≡_}
 use Prim.Native.Nat.{ℕ, _<_, _≤_}
 use lib.ListN.{length, getD}
 use Rattle.graph.specs.Limits.{most-nodes, most-orders}
-use Rattle.route.specs.Way.{Net, Parts}
+use Rattle.route.specs.Way.{Linked, Net, Parts}
 
 -- without the edges of t, no pair has a way from its first node to its second
 abbrev pub Apart : List ℕ → List ℕ → List ℕ → List ℕ → List Bool → Type 0
 Apart from to firsts seconds t = (i : ℕ) → i < length firsts → Parts from to (getD firsts i 0) (getD seconds i 0) t
 
 -- a graph with weights of at least 1, and pairs of different nodes
-pub record Known (from to ws firsts seconds : List ℕ) : Type 0 where
+pub record Known (from to links ws firsts seconds : List ℕ) : Type 0 where
   pub net : Net from to
+  pub linked : Linked to links 0
   pub weights : length ws ≡ length from
   pub some : (e : ℕ) → e < length ws → 1 ≤ getD ws e 0
   pub orders : length firsts ≤ most-orders

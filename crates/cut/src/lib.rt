@@ -91,17 +91,17 @@ pub fn chosen_cut(g: Graph, open: [bool; Graph::ORDERS]) -> Cut
     let to = l.to;
     let weights = l.weights;
     let orders = g.orders;
-    let p = near::near_first(
-        near::gather(orders, g.order_count, open),
-        &from[0..n],
-        &to[0..n],
-    );
+    let pairs = near::gather(orders, g.order_count, open);
+    let chains = route::link(&to[0..n]);
+    let links = chains.entries;
+    let p = near::near_first(pairs, &from[0..n], &to[0..n], &links);
     let firsts = p.firsts;
     let seconds = p.seconds;
     let m = p.count;
     search::best(
         &from[0..n],
         &to[0..n],
+        &links,
         &weights[0..n],
         &firsts[0..m],
         &seconds[0..m],

@@ -106,13 +106,14 @@ fn earlier(first: Route, r: Route) -> Route
 pub fn bound(
     from: &[u8],
     to: &[u8],
+    links: &[u8; Graph::NODES + Graph::EDGES],
     ws: &[u16],
     firsts: &[u8],
     seconds: &[u8],
     s: Cut,
     allowance: u32,
 ) -> Packing
-    requires { ⌜ Known (now from) (now to) (now ws) (now firsts) (now seconds) ⌝ }
+    requires { ⌜ Known (now from) (now to) (now links) (now ws) (now firsts) (now seconds) ⌝ }
     requires { ⌜ (Made (now ws) s) × (s .weight + allowance < most-weight) ⌝ }
     ensures { λ r. ⌜ Bounded (now (ws .entry)) (Apart (now (from .entry)) (now (to .entry)) (now (firsts .entry)) (now (seconds .entry))) s r ⌝ }
 {
@@ -124,7 +125,7 @@ pub fn bound(
     while i < n {
         let a = wide(firsts[i]);
         let b = wide(seconds[i]);
-        let r = route::find_route(from, to, &res.left, a, b);
+        let r = route::find_route(from, to, links, &res.left, a, b);
         if r.len == 0 {
             i += 1;
         } else {

@@ -19,13 +19,14 @@ const MOST: u32 = Graph::EDGES as u32 * 65535;
 pub fn least(
     from: &[u8],
     to: &[u8],
+    links: &[u8; Graph::NODES + Graph::EDGES],
     ws: &[u16],
     firsts: &[u8],
     seconds: &[u8],
     s: Cut,
     allowance: u32,
 ) -> Pick
-    requires { ⌜ Known (now from) (now to) (now ws) (now firsts) (now seconds) ⌝ }
+    requires { ⌜ Known (now from) (now to) (now links) (now ws) (now firsts) (now seconds) ⌝ }
     requires { ⌜ (Made (now ws) s) × (s .weight + allowance < most-weight) ⌝ }
     ensures { λ r. ⌜ Picked (now (ws .entry)) (Apart (now (from .entry)) (now (to .entry)) (now (firsts .entry)) (now (seconds .entry))) s allowance r ⌝ }
 {
@@ -33,7 +34,7 @@ pub fn least(
         found: false,
         cut: s,
     };
-    let b = bound(from, to, ws, firsts, seconds, s, allowance);
+    let b = bound(from, to, links, ws, firsts, seconds, s, allowance);
     let sum = b.sum;
     if allowance < sum {
         return none;
@@ -53,7 +54,16 @@ pub fn least(
         let e = edge_at(route, i);
         let w = wider(ws[e]);
         if w <= rest {
-            let c = least(from, to, ws, firsts, seconds, s.with_edge(e, w), rest - w);
+            let c = least(
+                from,
+                to,
+                links,
+                ws,
+                firsts,
+                seconds,
+                s.with_edge(e, w),
+                rest - w,
+            );
             if c.found {
                 best = c.lighter(best);
                 let cut = best.cut;
@@ -70,15 +80,22 @@ pub fn least(
 }
 
 // The chosen cut: first a lightest one, then its list, edge by edge: an earlier edge is taken where some cut as light goes on from it.
-pub fn best(from: &[u8], to: &[u8], ws: &[u16], firsts: &[u8], seconds: &[u8]) -> Cut
-    requires { ⌜ Known (now from) (now to) (now ws) (now firsts) (now seconds) ⌝ }
+pub fn best(
+    from: &[u8],
+    to: &[u8],
+    links: &[u8; Graph::NODES + Graph::EDGES],
+    ws: &[u16],
+    firsts: &[u8],
+    seconds: &[u8],
+) -> Cut
+    requires { ⌜ Known (now from) (now to) (now links) (now ws) (now firsts) (now seconds) ⌝ }
     ensures { λ r. ⌜ Made (now (ws .entry)) r × Least (now (ws .entry)) (Apart (now (from .entry)) (now (to .entry)) (now (firsts .entry)) (now (seconds .entry))) (r .chosen) ⌝ }
 {
     let start = Cut::empty();
-    let lightest = least(from, to, ws, firsts, seconds, start, MOST);
+    let lightest = least(from, to, links, ws, firsts, seconds, start, MOST);
     let mut c = lightest.cut;
     let weight = c.weight;
-    let b = bound(from, to, ws, firsts, seconds, start, weight);
+    let b = bound(from, to, links, ws, firsts, seconds, start, weight);
     let gap = weight - b.sum;
     let mut k = start;
     let n = ws.len();
@@ -92,7 +109,7 @@ pub fn best(from: &[u8], to: &[u8], ws: &[u16], firsts: &[u8], seconds: &[u8]) -
             if w <= rest {
                 if wider(b.left[e]) <= gap {
                     let longer = k.with_edge(e, w);
-                    let d = least(from, to, ws, firsts, seconds, longer, rest - w);
+                    let d = least(from, to, links, ws, firsts, seconds, longer, rest - w);
                     if d.found {
                         c = d.cut;
                         k = longer;

@@ -1,4 +1,5 @@
 -- The mathematics of the search for a route.
 pub mod Ways
-pub mod Layers
+pub mod Linking
+pub mod Spreads
 pub mod Traced

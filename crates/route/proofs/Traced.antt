@@ -11,9 +11,9 @@ use lib.Seq.{getD-set-same, getD-set-other}
 use borrow.Author.Count.{below-more}
 use Rattle.route.specs.declared.Route.{Route}
 use Rattle.graph.specs.Limits.{most-nodes}
-use Rattle.route.specs.Layer.{Back, Layer, Shut}
+use Rattle.route.specs.Spread.{Back, Spread}
 use Rattle.route.specs.Way.{Net, Way, Out, Remains, Found}
-use Rattle.route.proofs.Ways.{way-back, way-on}
+use Rattle.route.proofs.Ways.{Shut, way-back, way-on}
 
 pub record Traced (from to left : List ℕ) (a : ℕ) (edges : List ℕ) (at i : ℕ) : Type 0 where
   pub long : length edges ≡ most-nodes
@@ -39,9 +39,9 @@ module _ (from to left : List ℕ) (a : ℕ) where
       new : getD (set edges i e) i 0 ≡ e
       new = getD-set-same edges i e 0 (omega (arith, r .long))
 
-module _ (from to left : List ℕ) (goal : ℕ) (net : Net from to) (dist via : List ℕ) (count d : ℕ) (small : d < most-nodes) (y : Layer from to left goal dist via count d d 0) where
+module _ (from to left : List ℕ) (goal : ℕ) (net : Net from to) (dist via queue : List ℕ) (count j : ℕ) (y : Spread from to left goal dist via queue count j 0) where
   pub trace-short : (a : ℕ) → a < most-nodes → getD dist a 0 < 255 → getD dist a 0 < most-nodes
-  trace-short a h l = ⊎-elim (λ z. absurd (omega (arith, z))) (λ z. omega (arith, z)) (y .most a h)
+  trace-short a h l = ⊎-elim (λ z. absurd (omega (arith, z))) (λ z. omega (arith, z, y .all)) (y .most a h)
 
   module _ (a n at i : ℕ) (edges : List ℕ) (l : i < n) (n64 : n < most-nodes) (at64 : at < most-nodes) (sum : getD dist at 0 + i ≡ n) (e : ℕ) (p : e ≡ getD via at 0) where
     pub trace-edge : Back from to left dist at (n - (i + 1)) e

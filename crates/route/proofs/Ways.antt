@@ -4,15 +4,20 @@ use mathlib.Core.Bool.{false}
 use mathlib.Core.List.{List, [], _∷_, _++_}
 use mathlib.Core.Logic.{_⊎_, inl, inr, _≢_}
 use mathlib.Core.Path.{_≡_, refl, sym, ap, _∙_, subst, subst⁻¹}
-use Prim.Native.Nat.{ℕ, zero, suc, _+_, _<_}
+use Prim.Native.Nat.{ℕ, zero, suc, _+_, _<_, _≤_}
 use native.Mathlib.Decide.{ℕ-discrete}
 use native.Mathlib.Omega.{arith}
 use lib.Dec.{eqb}
 use lib.ListN.{length, getD, set}
 use lib.Seq.{getD-set-same, getD-set-other}
 use borrow.Author.Tests.{ne-eqb}
-use Rattle.route.specs.Layer.{miss, unseen, Shut}
-use Rattle.route.specs.Way.{Way, Remains}
+use Rattle.route.specs.Spread.{miss, unseen}
+use Rattle.graph.specs.Limits.{most-nodes, most-edges}
+use Rattle.route.specs.Way.{Net, Way, Remains}
+
+-- nothing leads on to the nodes that are reached
+abbrev pub Shut : List ℕ → List ℕ → List ℕ → List ℕ → Type 0
+Shut from to left dist = (e : ℕ) → e < length from → Remains left e → getD dist (getD to e 0) 0 < 255 → getD dist (getD from e 0) 0 < 255
 
 -- an element after a store
 pub set-val : (l : List ℕ) (e x k : ℕ) → e < length l → ((k ≡ e) × (getD (set l e x) k 0 ≡ x)) ⊎ ((k ≢ e) × (getD (set l e x) k 0 ≡ getD l k 0))
@@ -34,6 +39,10 @@ unseen-set (x ∷ l) zero y h f q = let m : miss x ≡ 1 = ap miss f in omega (a
 unseen-set (x ∷ l) (suc v) y h f q = omega (arith, unseen-set l v y (omega arith) f q)
 
 module _ (from to : List ℕ) where
+  -- where the edges of a net end
+  pub net-ends : Net from to → (length to ≤ most-edges) × ((e : ℕ) → e < length to → getD to e 0 < most-nodes)
+  net-ends net = (omega (arith, net .both, net .few), λ e h. net .head e (omega (arith, net .both, h)))
+
   -- one edge more at the end
   pub way-on : (Ok : ℕ → Type 0) (a : ℕ) (es : List ℕ) (b e : ℕ) → Way from to Ok a es b → e < length from → getD from e 0 ≡ b → Ok e → Way from to Ok a (es ++ (e ∷ [])) (getD to e 0)
   way-on Ok a [] b e w l f o = (l, f ∙ sym w, o, refl)

@@ -1,3 +1,3 @@
 -- What a route by its edges is, and what the search for one has found.
 pub mod Way
-pub mod Layer
+pub mod Spread

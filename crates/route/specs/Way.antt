@@ -3,10 +3,11 @@
 use mathlib.Core.Bool.{Bool, false}
 use mathlib.Core.List.{List, [], _∷_}
 use mathlib.Core.Path.{_≡_}
-use Prim.Native.Nat.{ℕ, _<_, _≤_}
+use Prim.Native.Nat.{ℕ, _+_, _<_, _≤_}
 use lib.ListN.{length, getD}
 use Rattle.route.specs.declared.Route.{Route}
 use Rattle.graph.specs.Limits.{most-nodes, most-edges}
+use Rattle.graph.specs.Scan.{FirstFrom}
 
 -- edges within the limits
 pub record Net (from to : List ℕ) : Type 0 where
@@ -14,6 +15,11 @@ pub record Net (from to : List ℕ) : Type 0 where
   pub both : length to ≡ length from
   pub tail : (e : ℕ) → e < length from → getD from e 0 < most-nodes
   pub head : (e : ℕ) → e < length from → getD to e 0 < most-nodes
+
+-- of the edges from lo on: an entry for each node has the first that ends there, and then one for each edge the next that ends where it does
+pub record Linked (to entries : List ℕ) (lo : ℕ) : Type 0 where
+  pub first : (v : ℕ) → v < most-nodes → FirstFrom (λ e. getD to e 0 ≡ v) lo (length to) (getD entries v 0)
+  pub next : (e : ℕ) → lo ≤ e → e < length to → FirstFrom (λ x. getD to x 0 ≡ getD to e 0) (e + 1) (length to) (getD entries (most-nodes + e) 0)
 
 -- the edges es lead from a to b, one after the other, and each passes Ok
 abbrev pub Way : (from to : List ℕ) → (ℕ → Type 0) → ℕ → List ℕ → ℕ → Type 0

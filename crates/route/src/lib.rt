@@ -1,12 +1,18 @@
-// Finds a route with the fewest edges, layer by layer from its end.
+// Finds a route with the fewest edges, node by node from its end.
 use graph::Graph;
 ghost use mathlib.Core.Logic.{_≢_};
 ghost use mathlib.Core.Path.{_≡_};
-ghost use Prim.Native.Nat.{_<_};
+ghost use Prim.Native.Nat.{ℕ, _+_, _<_, _≤_};
 ghost use lib.ListN.{length, getD, set, replicate};
-ghost use Rattle.graph.specs.Limits.{most-nodes};
-ghost use Rattle.route.specs.Way.{Net, Found};
-ghost use Rattle.route.specs.Layer.{Reached, Grown};
+ghost use Rattle.graph.specs.Limits.{most-nodes, most-edges};
+ghost use Rattle.route.specs.Way.{Net, Linked, Found};
+ghost use Rattle.route.specs.Spread.{Reached};
+
+// The edges that end at each node, as lists: an entry for each node has the first of them, and after these an entry for each edge has the
+// next one that ends where it does. The number of edges says that there is none.
+pub struct Links {
+    pub entries: [u8; Graph::NODES + Graph::EDGES],
+}
 
 // The edges of a route by their numbers, in order; none where len is 0.
 pub struct Route {
@@ -14,10 +20,11 @@ pub struct Route {
     pub len: usize,
 }
 
-// How far each node is from the goal, 255 where it is not reached; the edge that it goes on by; how many are reached.
+// How far each node is from the goal, 255 where it is not reached; the edge that it goes on by; the nodes reached, in order, and how many.
 pub struct Reach {
     pub dist: [u8; Graph::NODES],
     pub via: [u8; Graph::NODES],
+    pub queue: [u8; Graph::NODES],
     pub count: usize,
 }
 
@@ -27,42 +34,75 @@ pub fn wide(x: u8) -> usize
     x as usize
 }
 
+// From the last edge down: each goes before those that end at the same node.
+pub fn link(to: &[u8]) -> Links
+    requires { ⌜ (length (now to) ≤ most-edges) × ((e : ℕ) → e < length (now to) → getD (now to) e 0 < most-nodes) ⌝ }
+    ensures { λ r. ⌜ (length (r .entries) ≡ most-nodes + most-edges) × Linked (now (to .entry)) (r .entries) 0 ⌝ }
+{
+    let n = to.len();
+    let mut l = Links {
+        entries: [n as u8; Graph::NODES + Graph::EDGES],
+    };
+    let mut e = n;
+    while 0 < e {
+        e -= 1;
+        let v = wide(to[e]);
+        l.entries[Graph::NODES + e] = l.entries[v];
+        l.entries[v] = e as u8;
+    }
+    l
+}
+
 // Only the goal is reached.
 fn start(goal: usize) -> Reach
     requires { ⌜ goal < most-nodes ⌝ }
-    ensures { λ r. ⌜ (r .dist ≡ set (replicate most-nodes 255) goal 0) × (r .via ≡ replicate most-nodes 0) × (r .count ≡ 1) ⌝ }
+    ensures { λ r. ⌜ (r .dist ≡ set (replicate most-nodes 255) goal 0) × (r .queue ≡ set (replicate most-nodes 0) 0 goal) ⌝ }
+    ensures { λ r. ⌜ (length (r .via) ≡ most-nodes) × (r .count ≡ 1) ⌝ }
 {
     let mut dist = [255u8; Graph::NODES];
     dist[goal] = 0;
+    let mut queue = [0u8; Graph::NODES];
+    queue[0] = goal as u8;
     Reach {
         dist,
         via: [0u8; Graph::NODES],
+        queue,
         count: 1,
     }
 }
 
-// The nodes d + 1 away, once those up to d away are reached. An edge with nothing left is gone.
-fn grow(from: &[u8], to: &[u8], left: &[u16; Graph::EDGES], goal: usize, r: Reach, d: u8) -> Reach
-    requires { ⌜ Net (now from) (now to) ⌝ }
-    requires { ⌜ (d < most-nodes) × Reached (now from) (now to) (now left) goal r d ⌝ }
-    ensures { λ o. ⌜ Grown (now (from .entry)) (now (to .entry)) (now (left .entry)) goal r o d ⌝ }
+// The edges that end at node i of the queue: nodes that they start at are reached. An edge with nothing left is gone.
+fn spread(
+    from: &[u8],
+    to: &[u8],
+    links: &[u8; Graph::NODES + Graph::EDGES],
+    left: &[u16; Graph::EDGES],
+    goal: usize,
+    r: Reach,
+    i: usize,
+) -> Reach
+    requires { ⌜ Net (now from) (now to) × Linked (now to) (now links) 0 ⌝ }
+    requires { ⌜ (i < r .count) × Reached (now from) (now to) (now left) goal r i ⌝ }
+    ensures { λ o. ⌜ Reached (now (from .entry)) (now (to .entry)) (now (left .entry)) goal o (i + 1) ⌝ }
 {
     let n = from.len();
     let mut o = r;
-    let mut e = 0;
+    let u = wide(r.queue[i]);
+    let d = r.dist[u];
+    let mut e = wide(links[u]);
     while e < n {
         if left[e] != 0 {
-            let u = wide(to[e]);
-            if o.dist[u] == d {
-                let v = wide(from[e]);
-                if o.dist[v] == 255 {
-                    o.dist[v] = d + 1;
-                    o.via[v] = e as u8;
-                    o.count += 1;
-                }
+            let f = from[e];
+            let v = wide(f);
+            if o.dist[v] == 255 {
+                let k = o.count;
+                o.dist[v] = d + 1;
+                o.via[v] = e as u8;
+                o.queue[k] = f;
+                o.count = k + 1;
             }
         }
-        e += 1;
+        e = wide(links[Graph::NODES + e]);
     }
     o
 }
@@ -84,11 +124,11 @@ fn trace(
     a: usize,
     goal: usize,
     r: Reach,
-    d: u8,
+    seen: usize,
 ) -> Route
     requires { ⌜ Net (now from) (now to) ⌝ }
     requires { ⌜ (a < most-nodes) × (a ≢ goal) × (getD (r .dist) a 0 < 255) ⌝ }
-    requires { ⌜ (d < most-nodes) × Reached (now from) (now to) (now left) goal r d ⌝ }
+    requires { ⌜ Reached (now from) (now to) (now left) goal r seen ⌝ }
     ensures { λ o. ⌜ Found (now (from .entry)) (now (to .entry)) (now (left .entry)) a goal o ⌝ }
 {
     let n = wide(r.dist[a]);
@@ -109,26 +149,23 @@ fn trace(
 pub fn find_route(
     from: &[u8],
     to: &[u8],
+    links: &[u8; Graph::NODES + Graph::EDGES],
     left: &[u16; Graph::EDGES],
     a: usize,
     goal: usize,
 ) -> Route
-    requires { ⌜ Net (now from) (now to) ⌝ }
+    requires { ⌜ Net (now from) (now to) × Linked (now to) (now links) 0 ⌝ }
     requires { ⌜ (a < most-nodes) × (goal < most-nodes) × (a ≢ goal) ⌝ }
     ensures { λ r. ⌜ Found (now (from .entry)) (now (to .entry)) (now (left .entry)) a goal r ⌝ }
 {
     let mut r = start(goal);
-    let mut d: u8 = 0;
-    loop {
-        let x = r.dist[a];
-        if x < 255 {
-            return trace(from, to, left, a, goal, r, d);
+    let mut i = 0;
+    while i < r.count {
+        r = spread(from, to, links, left, goal, r, i);
+        i += 1;
+        if r.dist[a] < 255 {
+            return trace(from, to, left, a, goal, r, i);
         }
-        let o = grow(from, to, left, goal, r, d);
-        if o.count == r.count {
-            return no_route();
-        }
-        r = o;
-        d += 1;
     }
+    no_route()
 }

@@ -11,10 +11,10 @@ use Rattle.route.proofs.trace.Statement.{statement}
 use Rattle.route.proofs.trace.Tie as tie
 
 abbrev Inv-loop : tie.InvT-loop
-Inv-loop from to left a goal d r n o₀ at₀ i₀ o at i = (i ≤ n) × (at < most-nodes) × (getD (r .dist) at 0 + i ≡ n) × (n < most-nodes) × Traced from to left a (o .edges) at i
+Inv-loop from to left a goal seen r n o₀ at₀ i₀ o at i = (i ≤ n) × (at < most-nodes) × (getD (r .dist) at 0 + i ≡ n) × (n < most-nodes) × Traced from to left a (o .edges) at i
 
 abbrev μ-loop : tie.MeasureT-loop
-μ-loop from to left a goal d r n o₀ at₀ i₀ o at i = n - i
+μ-loop from to left a goal seen r n o₀ at₀ i₀ o at i = n - i
 
 element-copy-out-wide : tie.Need-element-copy-out-wide Inv-loop μ-loop
 element-copy-out-wide c = search needs
@@ -28,7 +28,7 @@ no-route-requires c κs = search needs
 loop-holds : tie.Need-loop-holds Inv-loop μ-loop
 loop-holds c = let st = c .before .before .before .before .before in
     let w = c .before .wide .ensures in
-    (omega arith, st .pre .1 .0 .0, omega (arith, w .0), omega (arith, w .0, trace-short _ _ _ _ (st .pre .0) _ _ _ _ (st .pre .1 .1 .0) (st .pre .1 .1 .1) (st .args .a) (st .pre .1 .0 .0) (st .pre .1 .0 .2)), traced-none _ _ _ _ _ (c .no-route .ensures .1))
+    (omega arith, st .pre .1 .0 .0, omega (arith, w .0), omega (arith, w .0, trace-short _ _ _ _ (st .pre .0) _ _ _ _ _ (st .pre .1 .1) (st .args .a) (st .pre .1 .0 .0) (st .pre .1 .0 .2)), traced-none _ _ _ _ _ (c .no-route .ensures .1))
 
 element-copy-out-e : tie.Need-element-copy-out-e Inv-loop μ-loop
 element-copy-out-e c = search needs
@@ -43,7 +43,7 @@ shared-slice-read-wide : tie.Need-shared-slice-read-wide Inv-loop μ-loop
 shared-slice-read-wide c = let l = c .before .before .before .before in
     let st = l .before .before .before .before .before .before in
     let i = l .loop .inv in
-    omega (arith, st .pre .0 .both, trace-edge _ _ _ _ (st .pre .0) _ _ _ _ (st .pre .1 .1 .0) (st .pre .1 .1 .1) (st .args .a) _ _ _ (l .loop .o .edges) (c .before .before .before .loop-test .taken) (i .3) (i .1) (i .2) _ (c .before .wide2 .ensures .0) .0)
+    omega (arith, st .pre .0 .both, trace-edge _ _ _ _ (st .pre .0) _ _ _ _ _ (st .pre .1 .1) (st .args .a) _ _ _ (l .loop .o .edges) (c .before .before .before .loop-test .taken) (i .3) (i .1) (i .2) _ (c .before .wide2 .ensures .0) .0)
 
 wide-requires-3 : tie.Need-wide-requires-3 Inv-loop μ-loop
 wide-requires-3 c κs = search needs
@@ -58,13 +58,13 @@ loop-again : tie.Need-loop-again Inv-loop μ-loop
 loop-again c = let l = c .before .before .before .before .before in
     let st = l .before .before .before .before .before .before in
     let i = l .loop .inv in
-    trace-more _ _ _ _ (st .pre .0) _ _ _ _ (st .pre .1 .1 .0) (st .pre .1 .1 .1) _ _ _ _ _ (c .before .before .before .before .loop-test .taken) (i .3) (i .1) (i .2) _ refl _ (c .wide3 .ensures .0 ∙ ap (λ (x : ℕ). getD (st .args .to .now) x 0) (c .before .before .wide2 .ensures .0)) (i .4)
+    trace-more _ _ _ _ (st .pre .0) _ _ _ _ _ (st .pre .1 .1) _ _ _ _ _ (c .before .before .before .before .loop-test .taken) (i .3) (i .1) (i .2) _ refl _ (c .wide3 .ensures .0 ∙ ap (λ (x : ℕ). getD (st .args .to .now) x 0) (c .before .before .wide2 .ensures .0)) (i .4)
 
 returns : tie.Need-returns Inv-loop μ-loop
 returns c = let l = c .before in
     let st = l .before .before .before .before .before .before in
     let i = l .loop .inv in
-    trace-end _ _ _ _ (st .pre .0) _ _ _ _ (st .pre .1 .1 .0) (st .pre .1 .1 .1) _ _ _ _ _ (st .pre .1 .0 .0) (st .pre .1 .0 .1) (l .before .before .wide .ensures .0) (i .3) (i .1) (omega (arith, i .0, c .loop-test .left)) (i .2) (i .4)
+    trace-end _ _ _ _ (st .pre .0) _ _ _ _ _ (st .pre .1 .1) _ _ _ _ _ (st .pre .1 .0 .0) (st .pre .1 .0 .1) (l .before .before .wide .ensures .0) (i .3) (i .1) (omega (arith, i .0, c .loop-test .left)) (i .2) (i .4)
 
 pub trace-spec : {M : Type 1} → statement M
 trace-spec =

@@ -17,10 +17,10 @@ use Rattle.cut.proofs.pack.bound.Statement.{statement}
 use Rattle.cut.proofs.pack.bound.Tie as tie
 
 abbrev Inv-loop : tie.InvT-loop
-Inv-loop from to ws firsts seconds allowance res₀ first₀ sum₀ n i₀ res first sum i = (i ≤ n) × (sum ≤ allowance) × (length (res .left) ≡ most-edges) × ((s : Cut) → Made ws s → Unspent ws (s .chosen) (res₀ .left) → Filled from to ws firsts seconds s (res .left) first sum i)
+Inv-loop from to links ws firsts seconds allowance res₀ first₀ sum₀ n i₀ res first sum i = (i ≤ n) × (sum ≤ allowance) × (length (res .left) ≡ most-edges) × ((s : Cut) → Made ws s → Unspent ws (s .chosen) (res₀ .left) → Filled from to ws firsts seconds s (res .left) first sum i)
 
 abbrev μ-loop : tie.MeasureT-loop
-μ-loop from to ws firsts seconds allowance res₀ first₀ sum₀ n i₀ res first sum i = (n - i) + (allowance + 1 - sum)
+μ-loop from to links ws firsts seconds allowance res₀ first₀ sum₀ n i₀ res first sum i = (n - i) + (allowance + 1 - sum)
 
 -- what is known once a route was looked for
 module _ (f : tie.After-find-route Inv-loop μ-loop) where
@@ -37,7 +37,7 @@ module _ (f : tie.After-find-route Inv-loop μ-loop) where
   start = turn .before .before .before .before .before .before .before .before .before
 
   fair : Fair (f .find-route .result)
-  fair = fair-route _ _ _ _ _ (start .pre .0) _ _ _ _ (turn .loop-test .taken) (from-node .wide .ensures .0) (to-node .wide2 .ensures .0) _ (f .find-route .ensures)
+  fair = fair-route _ _ _ _ _ _ (start .pre .0) _ _ _ _ (turn .loop-test .taken) (from-node .wide .ensures .0) (to-node .wide2 .ensures .0) _ (f .find-route .ensures)
 
 -- what is packed with a route more
 module _ (w : tie.After-wider Inv-loop μ-loop) (s : Cut) where
@@ -55,11 +55,11 @@ module _ (w : tie.After-wider Inv-loop μ-loop) (s : Cut) where
     found = pos-of-ne-zero (w .before .before .before .before .if1 .left)
 
     filled : Packs (w .before .reduce .result .left) (w .before .before .before .earlier .result) (turn route .before .loop .sum + w .wider .result)
-    filled = filled-more _ _ _ _ _ (asked .pre .0) s ms _ _ _ _ _ _ fi (turn route .loop-test .taken) (from-node route .wide .ensures .0) (to-node route .wide2 .ensures .0) _ (route .find-route .ensures) found _ (w .before .before .smallest .ensures) _ _ _
+    filled = filled-more _ _ _ _ _ _ (asked .pre .0) s ms _ _ _ _ _ _ fi (turn route .loop-test .taken) (from-node route .wide .ensures .0) (to-node route .wide2 .ensures .0) _ (route .find-route .ensures) found _ (w .before .before .smallest .ensures) _ _ _
         (w .before .reduce .ensures) (w .wider .ensures .0) (w .before .before .before .earlier .ensures .0) (w .before .before .before .earlier .ensures .1)
 
     some : 0 < w .before .before .before .earlier .result .len
-    some = earlier-some _ _ _ _ _ (asked .pre .0) s ms _ _ _ _ _ _ fi (turn route .loop-test .taken) (from-node route .wide .ensures .0) (to-node route .wide2 .ensures .0) _ (route .find-route .ensures) found _ (w .before .before .smallest .ensures) _
+    some = earlier-some _ _ _ _ _ _ (asked .pre .0) s ms _ _ _ _ _ _ fi (turn route .loop-test .taken) (from-node route .wide .ensures .0) (to-node route .wide2 .ensures .0) _ (route .find-route .ensures) found _ (w .before .before .smallest .ensures) _
         (w .before .before .before .earlier .ensures .0) (w .before .before .before .earlier .ensures .1)
 
 unspent-requires : tie.Need-unspent-requires Inv-loop μ-loop
@@ -70,7 +70,7 @@ no-route-requires c κs = search needs
 
 loop-holds : tie.Need-loop-holds Inv-loop μ-loop
 loop-holds c = let u = c .before .unspent .ensures in
-    (omega arith, omega arith, u .0, λ s ms v. filled-start _ _ _ _ _ (c .before .before .before .before .before .before .before .pre .0) s ms _ _ (u .0) v (c .no-route .ensures .0))
+    (omega arith, omega arith, u .0, λ s ms v. filled-start _ _ _ _ _ _ (c .before .before .before .before .before .before .before .pre .0) s ms _ _ (u .0) v (c .no-route .ensures .0))
 
 shared-slice-read-wide : tie.Need-shared-slice-read-wide Inv-loop μ-loop
 shared-slice-read-wide c = search needs
@@ -90,7 +90,7 @@ find-route-requires c κs = let w2 = c .before .before in
     let n = w1 .before .before in
     let kn = n .before .before .before .before .before .before .before .before .before .pre .0 in
     let p = kn .ends (n .before .loop .i) (n .loop-test .taken) in
-    (kn .net, (omega (arith, p .0, w1 .wide .ensures .0), omega (arith, p .1, w2 .wide2 .ensures .0), λ e. p .2 (sym (w1 .wide .ensures .0) ∙ e ∙ w2 .wide2 .ensures .0)))
+    ((kn .net, kn .linked), (omega (arith, p .0, w1 .wide .ensures .0), omega (arith, p .1, w2 .wide2 .ensures .0), λ e. p .2 (sym (w1 .wide .ensures .0) ∙ e ∙ w2 .wide2 .ensures .0)))
 
 add-i : tie.Need-add-i Inv-loop μ-loop
 add-i c = let f = c .before .before in record { fits = omega (arith, turn f .loop-test .taken, start f .pre .0 .orders) }
@@ -101,7 +101,7 @@ loop-less c = search needs
 loop-again : tie.Need-loop-again Inv-loop μ-loop
 loop-again c = let f = c .before .before in
     let i = turn f .before .loop .inv in
-    (omega arith, i .1, i .2, λ s ms u. filled-next _ _ _ _ _ (start f .pre .0) s ms _ _ _ _ _ _ (i .3 s ms u) (turn f .loop-test .taken) (from-node f .wide .ensures .0) (to-node f .wide2 .ensures .0) _ (f .find-route .ensures) (c .if1 .taken))
+    (omega arith, i .1, i .2, λ s ms u. filled-next _ _ _ _ _ _ (start f .pre .0) s ms _ _ _ _ _ _ (i .3 s ms u) (turn f .loop-test .taken) (from-node f .wide .ensures .0) (to-node f .wide2 .ensures .0) _ (f .find-route .ensures) (c .if1 .taken))
 
 earlier-requires : tie.Need-earlier-requires Inv-loop μ-loop
 earlier-requires c κs = search needs
@@ -124,7 +124,7 @@ returns c = let w = c .before .before in
     let s = start f .args .s in
     let ms = start f .pre .1 .0 in
     let fi = turn f .before .loop .inv .3 s ms (turn f .before .before .before .unspent .ensures .1) in
-    filled-over _ _ _ _ _ (start f .pre .0) s ms _ _ _ _ (filled w s ms fi) (some w s ms fi)
+    filled-over _ _ _ _ _ _ (start f .pre .0) s ms _ _ _ _ (filled w s ms fi) (some w s ms fi)
 
 loop-less-2 : tie.Need-loop-less-2 Inv-loop μ-loop
 loop-less-2 c = let w = c .before in
@@ -140,7 +140,7 @@ returns-2 : tie.Need-returns-2 Inv-loop μ-loop
 returns-2 c = let l = c .before .before in
     let st = l .before .before .before .before .before .before .before .before in
     let ms = st .pre .1 .0 in
-    filled-end _ _ _ _ _ (st .pre .0) (st .args .s) ms _ _ _ _ (l .loop .inv .3 (st .args .s) ms (l .before .before .unspent .ensures .1)) (c .before .loop-test .left)
+    filled-end _ _ _ _ _ _ (st .pre .0) (st .args .s) ms _ _ _ _ (l .loop .inv .3 (st .args .s) ms (l .before .before .unspent .ensures .1)) (c .before .loop-test .left)
 
 pub bound-spec : {M : Type 1} → statement M
 bound-spec =

@@ -27,20 +27,20 @@ use Rattle.cut.proofs.pack.wider.Reads as wider-reads
 use Rattle.cut.proofs.Cut.with_edge.Reads as with-edge-reads
 use Rattle.cut.proofs.Pick.lighter.Reads as lighter-reads
 
-abbrev μ-least : Measures 5 least-kinds.ps ℕ
-μ-least κs a = a .1 .1 .1 .1 .1 .1 .0
+abbrev μ-least : Measures 6 least-kinds.ps ℕ
+μ-least κs a = a .1 .1 .1 .1 .1 .1 .1 .0
 
-abbrev least-at : ℕ → In 5 least-kinds.ps
-least-at t = and 5 least-kinds.ps (is 5 least-kinds.ps μ-least t) least.Pre
+abbrev least-at : ℕ → In 6 least-kinds.ps
+least-at t = and 6 least-kinds.ps (is 6 least-kinds.ps μ-least t) least.Pre
 
-abbrev least-below : ℕ → In 5 least-kinds.ps
-least-below t = and 5 least-kinds.ps (falls 5 least-kinds.ps _<_ μ-least t) least.Pre
+abbrev least-below : ℕ → In 6 least-kinds.ps
+least-below t = and 6 least-kinds.ps (falls 6 least-kinds.ps _<_ μ-least t) least.Pre
 
 abbrev least-Inv-loop : least-lts.InvT-loop
-least-Inv-loop from to ws firsts seconds s allowance sum route n best₀ rest₀ i₀ best rest i = (i ≤ n) × Tried ws (Apart from to firsts seconds) s allowance (route .edges) best rest i
+least-Inv-loop from to links ws firsts seconds s allowance sum route n best₀ rest₀ i₀ best rest i = (i ≤ n) × Tried ws (Apart from to firsts seconds) s allowance (route .edges) best rest i
 
 abbrev least-μ-loop : least-lts.MeasureT-loop
-least-μ-loop from to ws firsts seconds s allowance sum route n best₀ rest₀ i₀ best rest i = n - i
+least-μ-loop from to links ws firsts seconds s allowance sum route n best₀ rest₀ i₀ best rest i = n - i
 
 abbrev calls : ℕ → least-lts.Claims
 calls t = (bound-reads.Asked, bound-reads.Learnt, edge-at-reads.Asked, edge-at-reads.Learnt, wider-reads.Asked, wider-reads.Learnt, with-edge-reads.Asked, with-edge-reads.Learnt, least-below t, least.Post, lighter-reads.Asked, lighter-reads.Learnt)

@@ -19,10 +19,10 @@ use Rattle.cut.proofs.search.best.Statement.{statement}
 use Rattle.cut.proofs.search.best.Tie as tie
 
 abbrev Inv-loop : tie.InvT-loop
-Inv-loop from to ws firsts seconds c₀ weight b gap k₀ n e₀ c k e = (e ≤ n) × (c .weight ≡ weight) × Kept ws (Apart from to firsts seconds) c k e
+Inv-loop from to links ws firsts seconds c₀ weight b gap k₀ n e₀ c k e = (e ≤ n) × (c .weight ≡ weight) × Kept ws (Apart from to firsts seconds) c k e
 
 abbrev μ-loop : tie.MeasureT-loop
-μ-loop from to ws firsts seconds c₀ weight b gap k₀ n e₀ c k e = n - e
+μ-loop from to links ws firsts seconds c₀ weight b gap k₀ n e₀ c k e = n - e
 
 -- what is known once there is a lightest cut and a bound
 module _ (b : tie.After-bound Inv-loop μ-loop) where
@@ -49,7 +49,7 @@ module _ (b : tie.After-bound Inv-loop μ-loop) where
 
   kept-first : Kept ws P (lightest .least .result .cut) (none .empty .result) 0
   kept-first = kept-start _ _ few _ _ _ _ (none .empty .ensures .1) empty (none .empty .ensures .1) (lightest .least .ensures)
-      (found _ _ _ _ _ (start .pre) _ _ _ (λ e. omega (arith, none .before .before .before .shared-slice-known3 .given e)) (none .empty .ensures .1) (omega arith) (lightest .least .ensures))
+      (found _ _ _ _ _ _ (start .pre) _ _ _ (λ e. omega (arith, none .before .before .before .shared-slice-known3 .given e)) (none .empty .ensures .1) (omega arith) (lightest .least .ensures))
 
 -- what is known in a turn of the loop
 module _ (n : tie.In-loop Inv-loop μ-loop) where

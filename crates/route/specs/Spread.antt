@@ -1,0 +1,43 @@
+-- What the search for a route has found, node by node: dist is how far each node is from the goal, 255 where it is not reached.
+-- Assumes nothing.
+use mathlib.Core.Bool.{true, false}
+use mathlib.Core.List.{List, [], _∷_}
+use mathlib.Core.Logic.{_⊎_}
+use mathlib.Core.Path.{_≡_}
+use Prim.Native.Nat.{ℕ, suc, _+_, _<_}
+use lib.Dec.{eqb}
+use lib.ListN.{length, getD}
+use Rattle.route.specs.declared.Reach.{Reach}
+use Rattle.graph.specs.Limits.{most-nodes}
+use Rattle.route.specs.Way.{Remains}
+
+-- 1 for a node that is not reached
+abbrev pub miss : ℕ → ℕ
+miss x = elim (eqb x 255) [ true ↦ 1 | false ↦ 0 ]
+
+-- how many of these are not reached
+abbrev pub unseen : List ℕ → ℕ
+unseen [] = 0
+unseen (x ∷ l) = miss x + unseen l
+
+-- node v goes on by edge x, to a node that is k away
+abbrev pub Back : List ℕ → List ℕ → List ℕ → List ℕ → ℕ → ℕ → ℕ → Type 0
+Back from to left dist v k x = (x < length from) × Remains left x × (getD from x 0 ≡ v) × (getD dist (getD to x 0) 0 ≡ k)
+
+-- the nodes reached are the first `count` of the queue; an edge to one of the first i of them, or one of the first e edges to node i, starts at a node that is reached
+pub record Spread (from to left : List ℕ) (goal : ℕ) (dist via queue : List ℕ) (count i e : ℕ) : Type 0 where
+  pub long : length dist ≡ most-nodes
+  pub wide : length via ≡ most-nodes
+  pub room : length queue ≡ most-nodes
+  pub all : count + unseen dist ≡ most-nodes
+  pub aim : getD dist goal 0 ≡ 0
+  pub home : (v : ℕ) → v < most-nodes → getD dist v 0 ≡ 0 → v ≡ goal
+  pub most : (v : ℕ) → v < most-nodes → (getD dist v 0 ≡ 255) ⊎ (getD dist v 0 < count)
+  pub back : (v k : ℕ) → v < most-nodes → getD dist v 0 ≡ suc k → k < 254 → Back from to left dist v k (getD via v 0)
+  pub known : (j : ℕ) → j < count → (getD queue j 0 < most-nodes) × (getD dist (getD queue j 0) 0 < 255)
+  pub queued : (v : ℕ) → v < most-nodes → getD dist v 0 < 255 → (j : ℕ) × (j < count) × (getD queue j 0 ≡ v)
+  pub done : (j x : ℕ) → x < length from → Remains left x → getD to x 0 ≡ getD queue j 0 → (j < i) ⊎ ((j ≡ i) × (x < e)) → getD dist (getD from x 0) 0 < 255
+
+-- the edges to the first i nodes of the queue have been looked at
+abbrev pub Reached : List ℕ → List ℕ → List ℕ → ℕ → Reach → ℕ → Type 0
+Reached from to left goal r i = Spread from to left goal (r .dist) (r .via) (r .queue) (r .count) i 0
