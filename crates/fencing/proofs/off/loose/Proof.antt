@@ -1,15 +1,11 @@
 -- `fencing::off::loose` meets its contract: one case for each thing that a step of strip looks at.
 use native.Mathlib.Omega.{arith}
-use Prim.Native.Nat.{ℕ, _+_, _-_, _<_, _≤_}
-use mathlib.Core.Path.{_≡_, sym, ap, _∙_, subst₂}
+use Prim.Native.Nat.{ℕ, _+_}
+use mathlib.Core.Path.{_≡_, sym, _∙_, subst}
 use borrow.Author.Tests.{not-true, not-false}
-use lib.ListN.{getD}
-use Rattle.graph.specs.declared.Edge.{Edge}
-use Rattle.graph.specs.Graph.{edge}
-use Rattle.graph.specs.Value.{graphOf}
+use Rattle.graph.specs.declared.Graph as Value
 use Rattle.graph.specs.Scan.{FirstFrom}
-use Rattle.graph.proofs.Value.{node-total, edge-total, edge-at, label-at}
-use Rattle.fencing.proofs.Tops.{fence-so, fence-not, none-empty, none-fence, none-end, none-more, none-start, none-weight, none-new, loose-there}
+use Rattle.fencing.proofs.Tops.{Ends, Starts, SomeEdge, SomeEnd, OneEach, none-empty, none-fence, fence-there, none-end, none-more, none-start, none-weight, none-new, loose-there}
 use borrow.Author.Needs.{needs}
 use Rattle.fencing.proofs.off.loose.Statement.{statement}
 use Rattle.fencing.proofs.off.loose.Tie as tie
@@ -20,11 +16,53 @@ use Rattle.fencing.proofs.off.first_start.Reads as first-start-reads
 use Rattle.fencing.proofs.off.is_fence.Reads as is-fence-reads
 use Rattle.fencing.proofs.off.next_end.Reads as next-end-reads
 
+-- the graph looked at, as the tests behind the first scan have it
+abbrev given : tie.Else3 → Value.Graph
+given c = c .before .before .before .before .before .before .before .args .t1
+
+-- the edge that the first scan found
+abbrev found : tie.Else3 → ℕ
+found c = c .before .next-end .result
+
+-- the place behind the first scan's test, as the last two tests have it
+abbrev scanned : tie.After-struct-known2 → tie.Else3
+scanned c = c .before .before .before .before .before .before .before .before
+
+-- known at the test of the label
+some-edge : (c : tie.After-is-fence) → SomeEdge (c .before .before .before .args .t1)
+some-edge c =
+    let e1 = c .before .before in
+    record { sized = e1 .before .pre .0; roomy = e1 .before .pre .1; node = e1 .before .pre .2; edge = omega (arith, e1 .if1 .left) }
+
+-- known behind the first scan's test
+some-end : (c : tie.Else3) → SomeEnd (given c) (found c)
+some-end c =
+    let e2 = c .before .before .before in
+    let b = some-edge (e2 .before) in
+    record {
+      some-edge = b;
+      is-fence = fence-there b _ (sym (e2 .before .is-fence .ensures) ∙ not-false _ (e2 .if2 .left));
+      two = omega (arith, c .if3 .left);
+      ends = c .before .next-end .ensures;
+    }
+
+-- known where the two edges are read
+one-each : (c : tie.After-struct-known2) → OneEach (given (scanned c)) (found (scanned c))
+one-each c =
+    let e5 = c .before .before .before .before in
+    let e4 = e5 .before .before in
+    let more = e4 .before .next-end2 in
+    let g = given (scanned c) in
+    let none : more .result ≡ g .«edge_count» = omega (arith, e4 .if4 .left, more .ensures .high) in
+    record {
+      some-end = some-end (scanned c);
+      no-more = subst (FirstFrom (Ends g) (found (scanned c) + 1) (g .«edge_count»)) none (more .ensures);
+      starts = subst (FirstFrom (Starts g) 0 (g .«edge_count»)) (e5 .if5 .left) (e5 .before .first-start .ensures);
+    }
+
 -- src/off.rt:90:9
 returns : tie.Need-returns
-returns c =
-    let s = c .before in
-    none-empty (graphOf (s .args .t1)) (s .args .t1 .«edge_count») (edge-total (s .args .t1) (s .pre .0) (s .pre .1)) (c .if1 .taken)
+returns c = none-empty _ (c .before .pre .0) (c .before .pre .1) (c .if1 .taken)
 
 -- src/off.rt:92:13
 sub-v : tie.Need-sub-v
@@ -48,12 +86,7 @@ is-fence-requires c κs = search needs
 
 -- src/off.rt:97:9
 returns-2 : tie.Need-returns-2
-returns-2 c =
-    let f = c .before in
-    let e1 = f .before .before in
-    let s = e1 .before in
-    none-fence (graphOf (s .args .t1)) (s .args .t1 .«edge_count») (edge-total (s .args .t1) (s .pre .0) (s .pre .1)) (s .args .t1 .«node_count» - 1) (s .args .t1 .«edge_count» - 1) (node-total (s .args .t1) (s .pre .0) (s .pre .1) ∙ omega (arith, s .pre .2)) (omega (arith, e1 .if1 .left))
-    (λ q. fence-not _ (sym (f .is-fence .ensures) ∙ not-true _ (c .if2 .taken)) (sym (label-at (s .args .t1) (s .pre .0) (s .pre .1) (s .args .t1 .«node_count» - 1) _ (omega (arith, s .pre .2))) ∙ q))
+returns-2 c = none-fence (some-edge (c .before)) _ (sym (c .before .is-fence .ensures) ∙ not-true _ (c .if2 .taken))
 
 -- src/off.rt:100:9
 next-end-requires : tie.Need-next-end-requires
@@ -61,13 +94,7 @@ next-end-requires c κs = search needs
 
 -- src/off.rt:102:9
 returns-3 : tie.Need-returns-3
-returns-3 c =
-    let ne = c .before in
-    let e2 = ne .before .before in
-    let f = e2 .before in
-    let e1 = f .before .before in
-    let s = e1 .before in
-    none-end (graphOf (s .args .t1)) (s .args .t1 .«edge_count») (edge-total (s .args .t1) (s .pre .0) (s .pre .1)) (s .args .t1 .«node_count» - 1) (s .args .t1 .«edge_count» - 1) (node-total (s .args .t1) (s .pre .0) (s .pre .1) ∙ omega (arith, s .pre .2)) (omega (arith, e1 .if1 .left)) (ne .next-end .result) (ne .next-end .ensures) (c .if3 .taken)
+returns-3 c = none-end (some-edge (c .before .before .before .before)) (c .before .next-end .ensures) (c .if3 .taken)
 
 -- src/off.rt:104:30
 add-next-end : tie.Need-add-next-end
@@ -79,15 +106,7 @@ next-end-requires-2 c κs = search needs
 
 -- src/off.rt:105:9
 returns-4 : tie.Need-returns-4
-returns-4 c =
-    let mo = c .before in
-    let e3 = mo .before in
-    let ne = e3 .before in
-    let e2 = ne .before .before in
-    let f = e2 .before in
-    let e1 = f .before .before in
-    let s = e1 .before in
-    none-more (graphOf (s .args .t1)) (s .args .t1 .«edge_count») (edge-total (s .args .t1) (s .pre .0) (s .pre .1)) (s .args .t1 .«node_count» - 1) (s .args .t1 .«edge_count» - 1) (node-total (s .args .t1) (s .pre .0) (s .pre .1) ∙ omega (arith, s .pre .2)) (omega (arith, e1 .if1 .left)) (ne .next-end .result) (ne .next-end .ensures) (omega (arith, e3 .if3 .left)) (mo .next-end2 .result) (mo .next-end2 .ensures) (c .if4 .taken)
+returns-4 c = none-more (some-end (c .before .before)) (c .before .next-end2 .ensures) (c .if4 .taken)
 
 -- src/off.rt:107:8
 first-start-requires : tie.Need-first-start-requires
@@ -95,17 +114,7 @@ first-start-requires c κs = search needs
 
 -- src/off.rt:108:9
 returns-5 : tie.Need-returns-5
-returns-5 c =
-    let fs = c .before in
-    let e4 = fs .before in
-    let mo = e4 .before in
-    let e3 = mo .before in
-    let ne = e3 .before in
-    let e2 = ne .before .before in
-    let f = e2 .before in
-    let e1 = f .before .before in
-    let s = e1 .before in
-    none-start (graphOf (s .args .t1)) (s .args .t1 .«edge_count») (edge-total (s .args .t1) (s .pre .0) (s .pre .1)) (s .args .t1 .«node_count» - 1) (s .args .t1 .«edge_count» - 1) (node-total (s .args .t1) (s .pre .0) (s .pre .1) ∙ omega (arith, s .pre .2)) (omega (arith, e1 .if1 .left)) (ne .next-end .result) (ne .next-end .ensures) (omega (arith, e3 .if3 .left)) (mo .next-end2 .result) (mo .next-end2 .ensures) (omega (arith, e4 .if4 .left)) (fs .first-start .result) (fs .first-start .ensures) (c .if5 .taken)
+returns-5 c = none-start (some-end (c .before .before .before .before) .some-edge) (c .before .first-start .ensures) (c .if5 .taken)
 
 -- src/off.rt:110:13
 mul-a : tie.Need-mul-a
@@ -125,22 +134,7 @@ array-copy-out-b c = search needs
 
 -- src/off.rt:113:9
 returns-6 : tie.Need-returns-6
-returns-6 c =
-    let k2 = c .before in
-    let e5 = k2 .before .before .before .before in
-    let fs = e5 .before in
-    let e4 = fs .before in
-    let mo = e4 .before in
-    let e3 = mo .before in
-    let ne = e3 .before in
-    let e2 = ne .before .before in
-    let f = e2 .before in
-    let e1 = f .before .before in
-    let s = e1 .before in
-    let at-i = edge-at (s .args .t1) (ne .next-end .result) (omega (arith, e1 .if1 .left, e3 .if3 .left)) in
-    let at-l = edge-at (s .args .t1) (s .args .t1 .«edge_count» - 1) (omega (arith, e1 .if1 .left)) in
-    none-weight (graphOf (s .args .t1)) (s .args .t1 .«edge_count») (edge-total (s .args .t1) (s .pre .0) (s .pre .1)) (s .args .t1 .«node_count» - 1) (s .args .t1 .«edge_count» - 1) (node-total (s .args .t1) (s .pre .0) (s .pre .1) ∙ omega (arith, s .pre .2)) (omega (arith, e1 .if1 .left)) (ne .next-end .result) (ne .next-end .ensures) (omega (arith, e3 .if3 .left)) (mo .next-end2 .result) (mo .next-end2 .ensures) (omega (arith, e4 .if4 .left)) (fs .first-start .result) (fs .first-start .ensures) (e5 .if5 .left)
-    (λ q. c .if6 .taken (sym (ap (λ (e : Edge). e .weight) at-i) ∙ q ∙ ap (λ (e : Edge). e .weight) at-l))
+returns-6 c = none-weight (one-each (c .before) .some-end) (c .if6 .taken)
 
 -- src/off.rt:115:8
 first-pair-requires : tie.Need-first-pair-requires
@@ -148,50 +142,11 @@ first-pair-requires c κs = search needs
 
 -- src/off.rt:116:9
 returns-7 : tie.Need-returns-7
-returns-7 c =
-    let fp = c .before in
-    let e6 = fp .before in
-    let k2 = e6 .before in
-    let e5 = k2 .before .before .before .before in
-    let fs = e5 .before in
-    let e4 = fs .before in
-    let mo = e4 .before in
-    let e3 = mo .before in
-    let ne = e3 .before in
-    let e2 = ne .before .before in
-    let f = e2 .before in
-    let e1 = f .before .before in
-    let s = e1 .before in
-    let at-i = edge-at (s .args .t1) (ne .next-end .result) (omega (arith, e1 .if1 .left, e3 .if3 .left)) in
-    let at-l = edge-at (s .args .t1) (s .args .t1 .«edge_count» - 1) (omega (arith, e1 .if1 .left)) in
-    none-new (graphOf (s .args .t1)) (s .args .t1 .«edge_count») (edge-total (s .args .t1) (s .pre .0) (s .pre .1)) (s .args .t1 .«node_count» - 1) (s .args .t1 .«edge_count» - 1) (node-total (s .args .t1) (s .pre .0) (s .pre .1) ∙ omega (arith, s .pre .2)) (omega (arith, e1 .if1 .left)) (ne .next-end .result) (ne .next-end .ensures) (omega (arith, e3 .if3 .left)) (mo .next-end2 .result) (mo .next-end2 .ensures) (omega (arith, e4 .if4 .left)) (fs .first-start .result) (fs .first-start .ensures) (e5 .if5 .left)
-    (ap (λ (e : Edge). e .weight) at-i ∙ e6 .if6 .left ∙ sym (ap (λ (e : Edge). e .weight) at-l)) (fp .first-pair .result)
-    (subst₂ (λ (x y : Edge). FirstFrom (λ j. ((edge (graphOf (s .args .t1)) j) .from ≡ x .from) × ((edge (graphOf (s .args .t1)) j) .to ≡ y .to)) 0 (s .args .t1 .«edge_count») (fp .first-pair .result)) (sym at-i) (sym at-l) (fp .first-pair .ensures))
-    (c .if7 .taken)
+returns-7 c = none-new (one-each (c .before .before .before) .some-end) (c .before .first-pair .ensures) (c .if7 .taken)
 
 -- src/off.rt:84:1
 returns-8 : tie.Need-returns-8
-returns-8 c =
-    let fp = c .before in
-    let e6 = fp .before in
-    let k2 = e6 .before in
-    let e5 = k2 .before .before .before .before in
-    let fs = e5 .before in
-    let e4 = fs .before in
-    let mo = e4 .before in
-    let e3 = mo .before in
-    let ne = e3 .before in
-    let e2 = ne .before .before in
-    let f = e2 .before in
-    let e1 = f .before .before in
-    let s = e1 .before in
-    let at-i = edge-at (s .args .t1) (ne .next-end .result) (omega (arith, e1 .if1 .left, e3 .if3 .left)) in
-    let at-l = edge-at (s .args .t1) (s .args .t1 .«edge_count» - 1) (omega (arith, e1 .if1 .left)) in
-    loose-there (graphOf (s .args .t1)) (s .args .t1 .«edge_count») (edge-total (s .args .t1) (s .pre .0) (s .pre .1)) (s .args .t1 .«node_count» - 1) (s .args .t1 .«edge_count» - 1) (node-total (s .args .t1) (s .pre .0) (s .pre .1) ∙ omega (arith, s .pre .2)) (omega (arith, e1 .if1 .left)) (ne .next-end .result) (ne .next-end .ensures) (omega (arith, e3 .if3 .left)) (mo .next-end2 .result) (mo .next-end2 .ensures) (omega (arith, e4 .if4 .left)) (fs .first-start .result) (fs .first-start .ensures) (e5 .if5 .left)
-    (ap (λ (e : Edge). e .weight) at-i ∙ e6 .if6 .left ∙ sym (ap (λ (e : Edge). e .weight) at-l)) (fp .first-pair .result)
-    (subst₂ (λ (x y : Edge). FirstFrom (λ j. ((edge (graphOf (s .args .t1)) j) .from ≡ x .from) × ((edge (graphOf (s .args .t1)) j) .to ≡ y .to)) 0 (s .args .t1 .«edge_count») (fp .first-pair .result)) (sym at-i) (sym at-l) (fp .first-pair .ensures))
-    (label-at (s .args .t1) (s .pre .0) (s .pre .1) (s .args .t1 .«node_count» - 1) _ (omega (arith, s .pre .2)) ∙ fence-so _ (sym (f .is-fence .ensures) ∙ not-false _ (e2 .if2 .left)))
-    (omega (arith, c .if7 .left))
+returns-8 c = loose-there (one-each (c .before .before .before)) (c .before .before .if6 .left) (c .before .first-pair .ensures) (omega (arith, c .if7 .left))
 
 pub loose-spec : {M : Type 1} → statement M
 loose-spec =
