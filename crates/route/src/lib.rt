@@ -71,42 +71,6 @@ fn start(goal: usize) -> Reach
     }
 }
 
-// The edges that end at node i of the queue: nodes that they start at are reached. An edge with nothing left is gone.
-fn spread(
-    from: &[u8],
-    to: &[u8],
-    links: &[u8; Graph::NODES + Graph::EDGES],
-    left: &[u16; Graph::EDGES],
-    goal: usize,
-    r: Reach,
-    i: usize,
-) -> Reach
-    requires { ⌜ Net (now from) (now to) × Linked (now to) (now links) 0 ⌝ }
-    requires { ⌜ (i < r .count) × Reached (now from) (now to) (now left) goal r i ⌝ }
-    ensures { λ o. ⌜ Reached (now (from .entry)) (now (to .entry)) (now (left .entry)) goal o (i + 1) ⌝ }
-{
-    let n = from.len();
-    let mut o = r;
-    let u = wide(r.queue[i]);
-    let d = r.dist[u];
-    let mut e = wide(links[u]);
-    while e < n {
-        if left[e] != 0 {
-            let f = from[e];
-            let v = wide(f);
-            if o.dist[v] == 255 {
-                let k = o.count;
-                o.dist[v] = d + 1;
-                o.via[v] = e as u8;
-                o.queue[k] = f;
-                o.count = k + 1;
-            }
-        }
-        e = wide(links[Graph::NODES + e]);
-    }
-    o
-}
-
 pub fn no_route() -> Route
     ensures { λ r. ⌜ (r .len ≡ 0) × (length (r .edges) ≡ most-nodes) ⌝ }
 {
@@ -145,7 +109,8 @@ fn trace(
     o
 }
 
-// A route with the fewest edges from a to goal on which no edge is gone.
+// A route with the fewest edges from a to goal on which no edge is gone: an edge with nothing left is. Nodes are reached backwards, in the
+// order of their distance.
 pub fn find_route(
     from: &[u8],
     to: &[u8],
@@ -158,10 +123,27 @@ pub fn find_route(
     requires { ⌜ (a < most-nodes) × (goal < most-nodes) × (a ≢ goal) ⌝ }
     ensures { λ r. ⌜ Found (now (from .entry)) (now (to .entry)) (now (left .entry)) a goal r ⌝ }
 {
+    let n = from.len();
     let mut r = start(goal);
     let mut i = 0;
     while i < r.count {
-        r = spread(from, to, links, left, goal, r, i);
+        let u = wide(r.queue[i]);
+        let d = r.dist[u];
+        let mut e = wide(links[u]);
+        while e < n {
+            if left[e] != 0 {
+                let f = from[e];
+                let v = wide(f);
+                if r.dist[v] == 255 {
+                    let k = r.count;
+                    r.dist[v] = d + 1;
+                    r.via[v] = e as u8;
+                    r.queue[k] = f;
+                    r.count = k + 1;
+                }
+            }
+            e = wide(links[Graph::NODES + e]);
+        }
         i += 1;
         if r.dist[a] < 255 {
             return trace(from, to, left, a, goal, r, i);
