@@ -54,16 +54,8 @@ pub fn least(
         let e = edge_at(route, i);
         let w = wider(ws[e]);
         if w <= rest {
-            let c = least(
-                from,
-                to,
-                links,
-                ws,
-                firsts,
-                seconds,
-                s.with_edge(e, w),
-                rest - w,
-            );
+            let larger = s.with_edge(e, w);
+            let c = least(from, to, links, ws, firsts, seconds, larger, rest - w);
             if c.found {
                 best = c.lighter(best);
                 let cut = best.cut;

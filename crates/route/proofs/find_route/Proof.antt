@@ -78,7 +78,7 @@ element-copy-out-d : tie.Need-element-copy-out-d Inv-loop2 μ-loop2 Inv-loop μ-
 element-copy-out-d c =
     let l = c .before .before .before in
     let st = l .before .before .before .before in
-    node-known _ _ _ _ _ (st .pre .0 .0) (st .pre .0 .1) _ _ _ _ _ _ 0 (l .loop .inv .0) (c .before .before .loop-test .taken) (c .wide .ensures .0)
+    node-known _ _ _ _ _ (st .pre .0 .0) (st .pre .0 .1) _ _ _ _ _ _ 0 (l .loop .inv .0) (omega (arith, c .before .before .loop-test .taken)) (c .wide .ensures .0)
 
 -- src/lib.rt:132:26
 element-copy-out-wide-2 : tie.Need-element-copy-out-wide-2 Inv-loop2 μ-loop2 Inv-loop μ-loop
@@ -94,7 +94,7 @@ loop2-holds c =
     let w = c .before .before .before in
     let l = w .before .before .before in
     let st = l .before .before .before .before in
-    look-start _ _ _ _ _ (st .pre .0 .0) (st .pre .0 .1) _ _ _ _ _ _ _ (l .loop .inv .0) (w .before .before .loop-test .taken) (w .wide .ensures .0) (c .wide2 .ensures .0)
+    look-start _ _ _ _ _ (st .pre .0 .0) (st .pre .0 .1) _ _ _ _ _ _ _ (l .loop .inv .0) (omega (arith, w .before .before .loop-test .taken)) (w .wide .ensures .0) (c .wide2 .ensures .0)
 
 -- src/lib.rt:134:16
 mul-if1 : tie.Need-mul-if1 Inv-loop2 μ-loop2 Inv-loop μ-loop
