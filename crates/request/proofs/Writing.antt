@@ -2,7 +2,8 @@
 -- Assumes nothing.
 use mathlib.Core.List.{List, [], _++_, _∷_, append-assoc, append-nil, flatMap}
 use mathlib.Core.Path.{_∙_, _≡_, ap, refl, sym}
-use Prim.Native.Nat.{_+_, _<_, _≤_, ℕ}
+use Prim.Native.Nat.{_*_, _+_, _<_, _≤_, ℕ}
+use native.Mathlib.Nat.{zero-mul, suc-mul}
 use native.Mathlib.Numerals.{add-one}
 use native.Mathlib.Omega.{arith}
 use lib.ListN.{drop, getD, length, length-append, length-drop, set, take, take-append-drop}
@@ -55,6 +56,31 @@ module _ {A : Type 0} (f : A → List ℕ) where
 
   pub records-more : {o₀ o₁ o₂ : List ℕ} {a b c : ℕ} (l : List A) (i : ℕ) (d : A) → i < length l → Written o₀ o₁ a b (flatMap f (take i l)) → Written o₁ o₂ b c (f (getD l i d)) → Written o₀ o₂ a c (flatMap f (take (i + 1) l))
   records-more l i d h p q = rw (add-one, take-suc l i d h, flat-snoc (take i l) (getD l i d)) (written-then p q)
+
+-- i of n records are written, of z bytes each, from `at` on; the next one goes to p
+pub record Putting {A : Type 0} (f : A → List ℕ) (z at n : ℕ) (l : List A) (before out : List ℕ) (p i : ℕ) : Type 0 where
+  pub upto : i ≤ n
+  pub next : p ≡ at + i * z
+  pub same : length out ≡ length before
+  pub written : Written before out at p (flatMap f (take i l))
+
+module _ {A : Type 0} (f : A → List ℕ) (z at n : ℕ) (l : List A) (before : List ℕ) where
+  pub putting-none : at + n * z ≤ length before → Putting f z at n l before before at 0
+  putting-none h = record { upto = omega arith; next = omega (arith, zero-mul z); same = refl; written = records-none f before at (omega (arith, h)) }
+
+  module _ (out : List ℕ) (p i : ℕ) (y : Putting f z at n l before out p i) where
+    pub putting-more : (out′ : List ℕ) (p′ : ℕ) (d : A) → i < n → n ≤ length l → p′ ≡ p + z → Written out out′ p p′ (f (getD l i d)) → Putting f z at n l before out′ p′ (i + 1)
+    putting-more out′ p′ d lt few e w = record {
+      upto = omega (arith, lt);
+      next = omega (arith, e, y .next, suc-mul i z);
+      same = written-length w ∙ y .same;
+      written = records-more f l i d (omega (arith, lt, few)) (y .written) w;
+    }
+
+    pub putting-all : n ≤ i → (p ≡ at + n * z) × Written before out at p (flatMap f (take n l))
+    putting-all h =
+        let e : i ≡ n = omega (arith, h, y .upto) in
+        (y .next ∙ ap (λ (k : ℕ). at + k * z) e, written-as (ap (λ (k : ℕ). flatMap f (take k l)) (sym e)) (y .written))
 
 abbrev pub label-bytes : Node → List ℕ
 label-bytes n = node-bytes (n .label)
