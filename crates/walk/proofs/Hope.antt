@@ -9,7 +9,7 @@ use lib.ListN.{getD}
 use Rattle.flags.specs.Flag.{flag, put}
 use Rattle.flags.proofs.Digit.{flag-zero, true-false}
 use Rattle.flags.proofs.Put.{put-cases, put-keeps}
-use Rattle.walk.specs.Search.{Rest, ends, goes, Next, Into, mark}
+use Rattle.walk.specs.Search.{Rest, ends, goes, Next, Into, Inside, mark}
 use Rattle.walk.specs.Words.{listed}
 use Rattle.walk.proofs.Rest.{unset, mark-grown, rest-new, rest-open, rest-live}
 
@@ -23,14 +23,10 @@ into-put fits goal into p known e q h = ⊎-elim (λ (d : q ≡ p). ap (λ (x : 
 
 -- ---- nothing goes on
 
--- each node of the first word is in the second
-abbrev Grown : ℕ → ℕ → Type 0
-Grown a b = (k : ℕ) → flag a k ≡ true → flag b k ≡ true
-
 -- where m is ordered on arrival at x, the words of the nodes that a way may go on to are within m
 abbrev pub Below : List ℕ → ℕ → ℕ → List ℕ → ℕ → ℕ → Type 0
 Below succ into visited least x m =
-    (y : ℕ) → listed succ x y ≡ true → flag visited y ≡ false → (flag m y ≡ true → flag into y ≡ true → ⊥) → Grown (getD least y 0) m
+    (y : ℕ) → listed succ x y ≡ true → flag visited y ≡ false → (flag m y ≡ true → flag into y ≡ true → ⊥) → Inside (getD least y 0) m
 
 module _ (succ fits : List ℕ) (goal into visited after : ℕ) (known : Into fits goal into) where
   pub ordered-already : (v : ℕ) → flag after goal ≡ true → (l : List ℕ) → Next succ fits goal visited after v l → ⊥
@@ -38,14 +34,14 @@ module _ (succ fits : List ℕ) (goal into visited after : ℕ) (known : Into fi
 
   module _ (least : List ℕ) (closed : (x : ℕ) → Below succ into visited least x (mark fits (getD least x 0) x)) (lost : listed least goal goal ≡ true) where
     -- what comes next on a route: it was not visited, and it is not one that would order the goal
-    step : {vis aft y : ℕ} {l : List ℕ} (k m : ℕ) → Grown visited vis → Grown m aft → Below succ into visited least k m → listed succ k y ≡ true → Rest succ fits goal vis aft y l → Grown (getD least y 0) aft
+    step : {vis aft y : ℕ} {l : List ℕ} (k m : ℕ) → Inside visited vis → Inside m aft → Below succ into visited least k m → listed succ k y ≡ true → Rest succ fits goal vis aft y l → Inside (getD least y 0) aft
     step {vis} {aft} {y} k m w u below s t j h =
         u j (below y s (unset (λ p. true-false (sym (w y p) ∙ rest-new succ fits goal t))) (λ p q. rest-live succ fits goal t (u y p) (known y q)) j h)
 
-    no-rest : {vis aft v : ℕ} {l : List ℕ} → Grown visited vis → Grown (getD least v 0) aft → Rest succ fits goal vis aft v l → ⊥
+    no-rest : {vis aft v : ℕ} {l : List ℕ} → Inside visited vis → Inside (getD least v 0) aft → Rest succ fits goal vis aft v l → ⊥
     no-rest {vis} {aft} {v} w u (ends f g h) = true-false (sym (u v (ap (λ (x : ℕ). listed least x x) g ∙ lost)) ∙ h)
     no-rest {vis} {aft} {v} w u (goes {k = k} f g h t) =
-        let w′ : Grown visited (put vis v) = λ j p. put-keeps vis v j (w j p) in
+        let w′ : Inside visited (put vis v) = λ j p. put-keeps vis v j (w j p) in
         no-rest w′ (step v (mark fits (getD least v 0) v) w′ (mark-grown fits v (getD least v 0) aft u) (closed v) h t) t
 
     pub no-next : (v : ℕ) → Below succ into visited least v after → (l : List ℕ) → Next succ fits goal visited after v l → ⊥

@@ -10,6 +10,7 @@ pub mod Tried
 pub mod Fallen
 pub mod Hope
 pub mod Reached
+pub mod Sifted
 pub mod Carried
 pub mod Soundness
 pub mod Completeness

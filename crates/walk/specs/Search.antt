@@ -39,6 +39,18 @@ module _ (succ fits : List ℕ) (goal : ℕ) where
 abbrev pub Into : List ℕ → ℕ → ℕ → Type 0
 Into fits goal into = (p : ℕ) → flag into p ≡ true → listed fits p goal ≡ true
 
+-- each node of the first word is in the second
+abbrev pub Inside : ℕ → ℕ → Type 0
+Inside a b = (k : ℕ) → flag a k ≡ true → flag b k ≡ true
+
+-- how many pairs of a node and a word are kept
+abbrev pub most-pairs : ℕ
+most-pairs = 512
+
+-- one of the first n pairs has the node y and a word inside w
+abbrev pub Known : List ℕ → List ℕ → ℕ → ℕ → ℕ → Type 0
+Known nodes words n y w = (j : ℕ) × (j < n) × (getD nodes j 0 ≡ y) × Inside (getD words j 0) w
+
 -- `low` is `high` with the words of the nodes in `next` brought down to m; `fell` has those nodes whose words changed
 pub record Lowered (high low : List ℕ) (next m fell : ℕ) : Type 0 where
   pub to : (y k : ℕ) → flag next y ≡ true → listed low y k ≡ true → flag m k ≡ true

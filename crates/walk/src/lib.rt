@@ -1,6 +1,7 @@
 // The walk along the routes of a graph, for the first one that does not order its ends.
 mod hoping;
 pub mod making;
+mod pairs;
 
 use flags::either;
 use flags::has;
@@ -13,6 +14,7 @@ use graph::Graph;
 use hoping::hopeful;
 use hoping::into_word;
 use making::words_of;
+use pairs::lost;
 ghost use mathlib.Core.Path.{_≡_};
 ghost use mathlib.Core.Bool.{false};
 ghost use Prim.Native.Nat.{_<_, _≤_};
@@ -115,6 +117,9 @@ pub fn trial<'a>(
         let way = visit(succ, fits, goal, into, visited, after, nodes, k);
         if 0 < way.len {
             return way;
+        }
+        if lost(succ, fits, goal, into, visited, after, v, k) {
+            return Way { len: 0, nodes };
         }
         tried = with(tried, k);
     }

@@ -29,6 +29,7 @@ use Rattle.flags.proofs.without.Reads as without-reads
 use Rattle.flags.proofs.word.Reads as word-reads
 use Rattle.walk.proofs.hoping.hopeful.Reads as hopeful-reads
 use Rattle.walk.proofs.marked.Reads as marked-reads
+use Rattle.walk.proofs.pairs.lost.Reads as lost-reads
 use Rattle.walk.proofs.+trial+visit.{statement}
 use Rattle.walk.proofs.+trial+visit.Tie.{close}
 
@@ -57,7 +58,7 @@ abbrev trial-μ-loop : trial-lts.MeasureT-loop
 trial-μ-loop succ fits goal into visited after nodes v tried₀ tried = most-nodes - ones tried
 
 abbrev trial-calls : ℕ → trial-lts.Claims
-trial-calls t = (hopeful-reads.Asked, hopeful-reads.Learnt, word-reads.Asked, word-reads.Learnt, without-reads.Asked, without-reads.Learnt, lowest-reads.Asked, lowest-reads.Learnt, visit-below t, visit.Post, with-reads.Asked, with-reads.Learnt)
+trial-calls t = (hopeful-reads.Asked, hopeful-reads.Learnt, word-reads.Asked, word-reads.Learnt, without-reads.Asked, without-reads.Learnt, lowest-reads.Asked, lowest-reads.Learnt, visit-below t, visit.Post, lost-reads.Asked, lost-reads.Learnt, with-reads.Asked, with-reads.Learnt)
 
 module _ (t : ℕ) where
   trial-hopeful-requires : trial-lts.Need-hopeful-requires (trial-calls t) (trial-at t) trial.Post trial-Inv-loop trial-μ-loop
@@ -113,20 +114,29 @@ module _ (t : ℕ) where
       taken (s .args .succ .now) (s .args .fits .now) (s .args .goal) (s .args .v) (c .before .before .before .lowest .result) (take (ones (s .args .visited)) (s .args .nodes)) (c .before .before .visit .result)
       (next (c .before .before .before)) (c .before .before .before .before .before .before .before .before .loop .inv .1) (c .if3 .taken) (c .before .before .visit .ensures)
 
+  trial-lost-requires : trial-lts.Need-lost-requires (trial-calls t) (trial-at t) trial.Post trial-Inv-loop trial-μ-loop
+  trial-lost-requires c κs =
+      let lo = c .before .before .before in
+      let s = lo .before .before .before .before .before .before .before .before in
+      ((s .pre .1 .0 .0, next lo .node, s .pre .1 .0 .1), s .pre .1 .1)
+
+  trial-returns-4 : trial-lts.Need-returns-4 (trial-calls t) (trial-at t) trial.Post trial-Inv-loop trial-μ-loop
+  trial-returns-4 c = none refl (c .before .lost .ensures (c .if4 .taken))
+
   trial-with-requires : trial-lts.Need-with-requires (trial-calls t) (trial-at t) trial.Post trial-Inv-loop trial-μ-loop
-  trial-with-requires c κs = next (c .before .before .before) .node
+  trial-with-requires c κs = next (c .before .before .before .before .before) .node
 
   trial-loop-less : trial-lts.Need-loop-less (trial-calls t) (trial-at t) trial.Post trial-Inv-loop trial-μ-loop
   trial-loop-less c =
-      let l = c .before .before .before .before .before .before .before .before .before .loop in
-      omega (arith, done-count _ (l .tried) (c .before .before .before .before .lowest .result) (c .with .result) (l .inv .0) (next (c .before .before .before .before)) (c .with .ensures))
+      let l = c .before .before .before .before .before .before .before .before .before .before .before .loop in
+      omega (arith, done-count _ (l .tried) (c .before .before .before .before .before .before .lowest .result) (c .with .result) (l .inv .0) (next (c .before .before .before .before .before .before)) (c .with .ensures))
 
   trial-loop-again : trial-lts.Need-loop-again (trial-calls t) (trial-at t) trial.Post trial-Inv-loop trial-μ-loop
   trial-loop-again c =
-      let s = c .before .before .before .before .before .before .before .before .before .before .before .before in (
+      let s = c .before .before .before .before .before .before .before .before .before .before .before .before .before .before in (
         c .with .ok,
-        not-taken (s .args .succ .now) (s .args .fits .now) (s .args .goal) (s .args .v) (c .before .before .before .before .lowest .result) (c .with .result) (take (ones (s .args .visited)) (s .args .nodes)) (c .before .before .before .visit .result)
-            (c .before .before .before .before .before .before .before .before .before .loop .inv .1) (λ p. omega (arith, p, c .before .if3 .left)) (c .before .before .before .visit .ensures) (c .with .ensures),
+        not-taken (s .args .succ .now) (s .args .fits .now) (s .args .goal) (s .args .v) (c .before .before .before .before .before .before .lowest .result) (c .with .result) (take (ones (s .args .visited)) (s .args .nodes)) (c .before .before .before .before .before .visit .result)
+            (c .before .before .before .before .before .before .before .before .before .before .before .loop .inv .1) (λ p. omega (arith, p, c .before .before .before .if3 .left)) (c .before .before .before .before .before .visit .ensures) (c .with .ensures),
       )
 
 abbrev visit-calls : ℕ → visit-lts.Claims
@@ -202,6 +212,8 @@ pub +trial+visit-spec : {M : Type 1} → statement M
     (trial-lowest-requires t)
     (trial-visit-requires t)
     (trial-returns-3 t)
+    (trial-lost-requires t)
+    (trial-returns-4 t)
     (trial-with-requires t)
     (trial-loop-less t)
     (trial-loop-again t))

@@ -1,0 +1,42 @@
+-- `walk::pairs::lost` meets its contract: only the longer look says that nothing is left.
+use mathlib.Core.Path.{sym}
+use borrow.Author.Tests.{not-true}
+use Rattle.flags.proofs.Digit.{true-false}
+use borrow.Author.Needs.{needs}
+use Rattle.walk.proofs.pairs.lost.Statement.{statement}
+use Rattle.walk.proofs.pairs.lost.Tie as tie
+use Rattle.walk.proofs.pairs.lost.Reads as reads
+use Rattle.walk.proofs.pairs.lost.Lts as lts
+use Rattle.flags.proofs.with.Reads as with-reads
+use Rattle.walk.proofs.hoping.hopeful.Reads as hopeful-reads
+use Rattle.walk.proofs.marked.Reads as marked-reads
+use Rattle.walk.proofs.pairs.some_way.Reads as some-way-reads
+
+-- src/pairs.rt:109:9
+with-requires : tie.Need-with-requires
+with-requires c κs = search needs
+
+-- src/pairs.rt:110:9
+marked-requires : tie.Need-marked-requires
+marked-requires c κs = search needs
+
+-- src/pairs.rt:104:9
+hopeful-requires : tie.Need-hopeful-requires
+hopeful-requires c κs = search needs
+
+-- src/pairs.rt:113:9
+returns : tie.Need-returns
+returns c = λ e. absurd (true-false (sym e))
+
+-- src/pairs.rt:115:6
+some-way-requires : tie.Need-some-way-requires
+some-way-requires c κs = search needs
+
+-- src/pairs.rt:90:1
+returns-2 : tie.Need-returns-2
+returns-2 c = λ e. c .some-way .ensures (not-true _ e)
+
+pub lost-spec : {M : Type 1} → statement M
+lost-spec =
+    tie.close
+    (tie.spec with-requires marked-requires hopeful-requires returns some-way-requires returns-2)
