@@ -1,5 +1,4 @@
 // The search: a lightest cut by branching on a route, then the list of the chosen one, edge by edge.
-ghost use mathlib.Core.Path.{_≡_};
 ghost use Prim.Native.Nat.{_+_, _<_};
 ghost use Rattle.cut.specs.Made.{Made, most-weight};
 ghost use Rattle.cut.specs.Sets.{Least};

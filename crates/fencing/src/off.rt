@@ -5,7 +5,7 @@ use graph::Label;
 use graph::Order;
 ghost use mathlib.Core.Path.{_≡_};
 ghost use mathlib.Core.Bool.{true, false};
-ghost use Prim.Native.Nat.{ℕ, _+_, _<_, _≤_};
+ghost use Prim.Native.Nat.{_+_, _<_, _≤_};
 ghost use lib.ListN.{getD, take};
 ghost use Rattle.graph.specs.Graph.{no-edge};
 ghost use Rattle.graph.specs.Limits.{most-edges, most-orders};

@@ -8,7 +8,7 @@ ghost use mathlib.Core.Bool.{true, false};
 ghost use Prim.Native.Nat.{ℕ, _+_, _<_, _≤_};
 ghost use lib.ListN.{length, getD};
 ghost use Rattle.graph.specs.Limits.{most-nodes, most-edges};
-ghost use Rattle.graph.specs.Value.{graphOf, rulesOf, ordersOf, Sized, Roomy, rising};
+ghost use Rattle.graph.specs.Value.{graphOf, Sized, Roomy, rising};
 ghost use Rattle.graph.specs.Written.{fenced, written};
 ghost use Rattle.fencing.specs.Kept.{Kept};
 

@@ -5,11 +5,8 @@ use mathlib.Core.Path.{refl}
 use Prim.Native.Nat.{ℕ}
 use lib.ListN.{drop, replicate, take}
 use Rattle.graph.specs.declared.Label.the-variants.{Fence}
-use Rattle.graph.specs.declared.Order.{Order}
-use Rattle.graph.specs.declared.Rule.{Rule}
 use Rattle.request.specs.declared.Answer.the-variants.{BadOrder, NoFenceRules, TooMany, Unreadable}
 use Rattle.request.specs.declared.Reading.the-variants.{Refused}
-use Rattle.graph.specs.Graph.{Graph}
 use Rattle.graph.specs.Samples.{D-of, D-orders, D-rules, fence-rules, or}
 use Rattle.request.specs.File.{Request, bytes, request}
 use Rattle.request.specs.Layout.{edgesIn, endCheck, limitsOf, nodesIn, ordersIn, recordAt, rulesIn, run}

@@ -6,6 +6,7 @@ use Prim.Native.Nat.{ℕ, zero, suc, _≤_, _<_, zero-le, suc-le-suc}
 use native.Mathlib.Nat.{le-of-suc-le-suc, not-suc-le-zero}
 use native.Mathlib.Omega.{arith}
 use lib.ListN.{length, take, getD, length-take}
+use Rattle.graph.proofs.Value.{labels-length}
 use Rattle.graph.specs.declared.Node.{Node}
 use Rattle.graph.specs.Value.{labels}
 
@@ -26,7 +27,5 @@ module _ {A : Type 0} where
   counted-each P d p (suc n) (x ∷ l) f zero h = f zero (suc-le-suc zero-le)
   counted-each P d p (suc n) (x ∷ l) f (suc i) h = counted-each P d p n l (λ j k. f (suc j) (suc-le-suc k)) i (le-of-suc-le-suc h)
 
-pub labels-length : (ns : List Node) (n : ℕ) → length (labels (take n ns)) ≤ n
-labels-length ns zero = zero-le
-labels-length [] (suc n) = zero-le
-labels-length (x ∷ ns) (suc n) = suc-le-suc (labels-length ns n)
+pub labels-few : (ns : List Node) (n : ℕ) → length (labels (take n ns)) ≤ n
+labels-few ns n = omega (arith, labels-length (take n ns), length-take n ns)

@@ -23,7 +23,7 @@ use Rattle.graph.specs.Value.{graphOf, rulesOf, ordersOf, Sized, Told}
 use Rattle.walk.specs.declared.Way.{Way}
 use Rattle.walk.specs.declared.Words.{Words}
 use Rattle.walk.specs.Words.{AskedOf, WordsOf}
-use Rattle.walk.proofs.Counted.{counted-below, counted-each, labels-length}
+use Rattle.walk.proofs.Counted.{counted-below, counted-each, labels-few}
 
 -- ---- what `open_orders` keeps: the flags below i are right
 
@@ -64,7 +64,7 @@ module _ (g : Graph) (sized : Sized g) where
   pub order-ends : Orderly (length ((graphOf g) .nodes)) (ordersOf g) → (i : ℕ) → i < g .«order_count»
       → (order (g .orders) i .first < most-nodes) × (order (g .orders) i .second < most-nodes)
   order-ends orderly = counted-each (λ o. (o .first < most-nodes) × (o .second < most-nodes)) no-order (lit< tt, lit< tt) (g .«order_count») (g .orders)
-      (λ i h. let s = orderly .ends i h in let n = labels-length (g .nodes) (g .«node_count») in (omega (arith, s .0, sized .nodes), omega (arith, s .1, sized .nodes)))
+      (λ i h. let s = orderly .ends i h in let n = labels-few (g .nodes) (g .«node_count») in (omega (arith, s .0, sized .nodes), omega (arith, s .1, sized .nodes)))
 
   pub judged-told : (words : Words) (flags : List Bool) → WordsOf (graphOf g) (rulesOf g) [] words → ((j : ℕ) → j < g .«order_count» → Judged words (g .orders) flags j) → Told g flags
   judged-told words flags of judged = record { is-open = open′; is-held = held′ }

@@ -9,9 +9,9 @@ use native.Mathlib.Nat.{le-of-suc-le-suc, not-suc-le-zero}
 use native.Mathlib.Omega.{arith}
 use lib.Dec.{lit<}
 use lib.ListN.{length, take, getD, length-take}
-use lib.Seq.{getD-take}
 use borrow.Author.Tests.{lt-ltb}
 use denote.Floats.{is-true, passes}
+use Rattle.graph.proofs.Value.{edge-at}
 use Rattle.graph.specs.declared.Edge.{Edge}
 use Rattle.graph.specs.declared.Graph.{Graph}
 use Rattle.graph.specs.declared.Label.the-variants.{Fence}
@@ -24,7 +24,7 @@ use Rattle.graph.specs.Value.{labels, graphOf, rulesOf, Sized}
 use Rattle.graph.proofs.Ruled.{says-ruled}
 use Rattle.walk.specs.declared.Words.{Words}
 use Rattle.walk.specs.Words.{WordsOf, listed, Ends, Led, labelAt, fitIn}
-use Rattle.walk.proofs.Counted.{counted-below, counted-each, labels-length}
+use Rattle.walk.proofs.Counted.{counted-below, counted-each, labels-few}
 
 label-take : (ns : List Node) (n p : ℕ) → p < length (labels (take n ns)) → getD (labels (take n ns)) p Fence ≡ labelAt ns p
 label-take ns zero p h = absurd (not-suc-le-zero h)
@@ -34,23 +34,20 @@ label-take (x ∷ ns) (suc n) (suc p) h = label-take ns n p (le-of-suc-le-suc h)
 
 module _ (g : Graph) (sized : Sized g) (sound : Sound (graphOf g)) where
   node-count : length ((graphOf g) .nodes) ≤ g .«node_count»
-  node-count = labels-length (g .nodes) (g .«node_count»)
+  node-count = labels-few (g .nodes) (g .«node_count»)
 
   -- what `succ_words` asks for
   pub all-ends : Ends (g .edges) (g .«edge_count»)
   all-ends = counted-each (λ e. (e .from < most-nodes) × (e .to < most-nodes)) no-edge (lit< tt, lit< tt) (g .«edge_count») (g .edges)
       (λ i h. let s = sound .ends i h in (omega (arith, s .0, node-count, sized .nodes), omega (arith, s .1, node-count, sized .nodes)))
 
-  edge-at : (i : ℕ) → i < g .«edge_count» → getD ((graphOf g) .edges) i no-edge ≡ getD (g .edges) i no-edge
-  edge-at i h = getD-take (g .«edge_count») (g .edges) i no-edge h
-
   led-step : (p q : ℕ) → Led (g .edges) (g .«edge_count») p q → Step (graphOf g) [] p q
   led-step p q (j, h, k, f, t) = (
     j,
     omega (arith, length-take (g .«edge_count») (g .edges)),
     tt,
-    ap (λ (x : Edge). x .from) (edge-at j h) ∙ f,
-    ap (λ (x : Edge). x .to) (edge-at j h) ∙ t,
+    ap (λ (x : Edge). x .from) (edge-at g j h) ∙ f,
+    ap (λ (x : Edge). x .to) (edge-at g j h) ∙ t,
   )
 
   step-led : (p q : ℕ) → Step (graphOf g) [] p q → Led (g .edges) (g .«edge_count») p q
@@ -59,8 +56,8 @@ module _ (g : Graph) (sized : Sized g) (sound : Sound (graphOf g)) where
         j,
         k,
         omega (arith, length-take (g .«edge_count») (g .edges)),
-        sym (ap (λ (x : Edge). x .from) (edge-at j k)) ∙ f,
-        sym (ap (λ (x : Edge). x .to) (edge-at j k)) ∙ t,
+        sym (ap (λ (x : Edge). x .from) (edge-at g j k)) ∙ f,
+        sym (ap (λ (x : Edge). x .to) (edge-at g j k)) ∙ t,
       )
 
   pub words-made : (words : Words)

@@ -38,7 +38,7 @@ const ALL: u64 = 18446744073709551615;
 const ROUNDS: usize = Graph::NODES * Graph::NODES;
 
 // Brings the words of the nodes in `next` down to what is in m too. The nodes whose words changed.
-pub fn lower<'a>(least: &'a mut [u64; Graph::NODES], next: u64, m: u64) -> u64
+fn lower<'a>(least: &'a mut [u64; Graph::NODES], next: u64, m: u64) -> u64
     ensures { λ r. ⌜ Lowered (now (least .entry)) (now (least .exit)) next m r ⌝ }
 {
     let mut done: u64 = 0;

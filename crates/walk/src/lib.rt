@@ -40,7 +40,7 @@ pub struct Way {
 }
 
 // The nodes that are ordered after the first if they come next, once the route has gone on to v.
-pub fn marked<'a>(fits: &'a [u64; Graph::NODES], after: u64, v: usize) -> u64
+fn marked<'a>(fits: &'a [u64; Graph::NODES], after: u64, v: usize) -> u64
     requires { ⌜ v < most-nodes ⌝ }
     ensures { λ r. ⌜ r ≡ mark (now (fits .entry)) after v ⌝ }
 {
@@ -51,7 +51,7 @@ pub fn marked<'a>(fits: &'a [u64; Graph::NODES], after: u64, v: usize) -> u64
 }
 
 // Visiting v, which is not on the route so far: that one's nodes are `visited`, and they stand at the start of `nodes`. The first way on.
-pub fn visit<'a>(
+fn visit<'a>(
     succ: &'a [u64; Graph::NODES],
     fits: &'a [u64; Graph::NODES],
     goal: usize,
@@ -90,7 +90,7 @@ pub fn visit<'a>(
 }
 
 // The trial of the edges of v, the last node on the route so far: each in turn, that to the lowest node first. The first way on.
-pub fn trial<'a>(
+fn trial<'a>(
     succ: &'a [u64; Graph::NODES],
     fits: &'a [u64; Graph::NODES],
     goal: usize,

@@ -23,7 +23,7 @@ ghost use Rattle.graph.specs.Value.{graphOf, rulesOf, Sized};
 ghost use Rattle.walk.specs.Words.{WordsOf, listed, Ends, Led, labelAt, fitIn};
 
 // For each node the word of the nodes that an edge leads to.
-pub fn succ_words(edges: [Edge; Graph::EDGES], n: usize) -> [u64; Graph::NODES]
+fn succ_words(edges: [Edge; Graph::EDGES], n: usize) -> [u64; Graph::NODES]
     requires { ⌜ (n ≤ most-edges) × Ends edges n ⌝ }
     ensures { λ r. ⌜ ((p q : ℕ) → (listed r p q ≡ true) ↔ Led edges n p q) ⌝ }
 {
@@ -38,7 +38,7 @@ pub fn succ_words(edges: [Edge; Graph::EDGES], n: usize) -> [u64; Graph::NODES]
 }
 
 // The word of the nodes q such that some rule fits l and q's label.
-pub fn fits_word(
+fn fits_word(
     nodes: [Node; Graph::NODES],
     n: usize,
     rules: [Rule; Graph::RULES],
@@ -60,7 +60,7 @@ pub fn fits_word(
 }
 
 // For each node p the word of the nodes q such that some rule fits their labels.
-pub fn fits_words(
+fn fits_words(
     nodes: [Node; Graph::NODES],
     n: usize,
     rules: [Rule; Graph::RULES],

@@ -4,12 +4,6 @@ use Rattle.fence.proofs.Unread.{ask-unread}
 use borrow.Author.Needs.{needs}
 use Rattle.fence.proofs.fence_ask.Statement.{statement}
 use Rattle.fence.proofs.fence_ask.Tie as tie
-use Rattle.fence.proofs.fence_ask.Reads as reads
-use Rattle.fence.proofs.fence_ask.Lts as lts
-use Rattle.fence.proofs.answer.unshown.Reads as unshown-reads
-use Rattle.fence.proofs.asking.ask.Reads as ask-reads
-use Rattle.request.proofs.decode.Reads as decode-reads
-use Rattle.request.proofs.read.Reads as read-reads
 
 -- src/lib.rt:44:11
 read-requires : tie.Need-read-requires

@@ -4,12 +4,6 @@ use Rattle.fence.proofs.Unread.{run-unread}
 use borrow.Author.Needs.{needs}
 use Rattle.fence.proofs.fence_run.Statement.{statement}
 use Rattle.fence.proofs.fence_run.Tie as tie
-use Rattle.fence.proofs.fence_run.Reads as reads
-use Rattle.fence.proofs.fence_run.Lts as lts
-use Rattle.fence.proofs.answer.refused.Reads as refused-reads
-use Rattle.fence.proofs.running.run.Reads as run-reads
-use Rattle.request.proofs.decode.Reads as decode-reads
-use Rattle.request.proofs.read.Reads as read-reads
 
 -- src/lib.rt:33:11
 read-requires : tie.Need-read-requires

@@ -4,12 +4,6 @@ use Rattle.fence.proofs.Unread.{strip-unread}
 use borrow.Author.Needs.{needs}
 use Rattle.fence.proofs.fence_strip.Statement.{statement}
 use Rattle.fence.proofs.fence_strip.Tie as tie
-use Rattle.fence.proofs.fence_strip.Reads as reads
-use Rattle.fence.proofs.fence_strip.Lts as lts
-use Rattle.fence.proofs.answer.refused.Reads as refused-reads
-use Rattle.fence.proofs.stripping.strip.Reads as strip-reads
-use Rattle.request.proofs.decode.Reads as decode-reads
-use Rattle.request.proofs.read.Reads as read-reads
 
 -- src/lib.rt:55:11
 read-requires : tie.Need-read-requires

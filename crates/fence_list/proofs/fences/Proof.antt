@@ -3,9 +3,6 @@ use Prim.Native.Nat.{_-_, _≤_}
 use borrow.Author.Needs.{needs}
 use Rattle.fence_list.proofs.fences.Statement.{statement}
 use Rattle.fence_list.proofs.fences.Tie as tie
-use Rattle.fence_list.proofs.fences.Reads as reads
-use Rattle.fence_list.proofs.fences.Lts as lts
-use Rattle.fence_list.proofs.fence.Reads as fence-reads
 
 abbrev Inv-loop : tie.InvT-loop
 Inv-loop k n m edges v₀ v = (v ≤ n) × (n ≤ 64) × (m ≤ 192)

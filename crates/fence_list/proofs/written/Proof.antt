@@ -3,11 +3,6 @@ use Rattle.fence.proofs.Reading.{whole-read}
 use borrow.Author.Needs.{needs}
 use Rattle.fence_list.proofs.written.Statement.{statement}
 use Rattle.fence_list.proofs.written.Tie as tie
-use Rattle.fence_list.proofs.written.Reads as reads
-use Rattle.fence_list.proofs.written.Lts as lts
-use Rattle.fence_list.proofs.fences.Reads as fences-reads
-use Rattle.request.proofs.decode.Reads as decode-reads
-use Rattle.request.proofs.read.Reads as read-reads
 
 -- src/main.rt:73:37
 read-requires : tie.Need-read-requires

@@ -8,9 +8,6 @@ use Rattle.graph.specs.declared.Want.{Want}
 use Rattle.graph.specs.Fit.{agree, wantOf, ifSame}
 use Rattle.graph.proofs.fits.Statement.{statement}
 use Rattle.graph.proofs.fits.Tie as tie
-use Rattle.graph.proofs.fits.Reads as reads
-use Rattle.graph.proofs.fits.Lts as lts
-use Rattle.graph.proofs.wants.Reads as wants-reads
 
 agreed : {a b x y : Want} → a ≡ x → b ≡ y → agree x y ≡ agree a b
 agreed p q = sym (ap₂ agree p q)

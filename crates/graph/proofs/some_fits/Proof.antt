@@ -1,7 +1,7 @@
 -- `graph::some_fits` meets its contract: rule by rule.
-use Prim.Native.Nat.{ℕ, _≤_, _-_, _<_, suc, _+_}
-use mathlib.Core.Path.{_≡_, sym, ap, _∙_}
-use mathlib.Core.Bool.{Bool, true, false}
+use Prim.Native.Nat.{_≤_, _-_, suc}
+use mathlib.Core.Path.{_≡_, sym, _∙_}
+use mathlib.Core.Bool.{true, false}
 use lib.ListN.{take}
 use Rattle.graph.specs.Fit.{fitOf, ruledb}
 use Rattle.graph.specs.declared.Rule.{Rule}
@@ -11,9 +11,6 @@ use Rattle.graph.proofs.Ruled.{some-more, some-stays}
 use borrow.Author.Needs.{needs}
 use Rattle.graph.proofs.some_fits.Statement.{statement}
 use Rattle.graph.proofs.some_fits.Tie as tie
-use Rattle.graph.proofs.some_fits.Reads as reads
-use Rattle.graph.proofs.some_fits.Lts as lts
-use Rattle.graph.proofs.fits.Reads as fits-reads
 
 abbrev Inv-loop : tie.InvT-loop
 Inv-loop n p q rules i₀ i = (i ≤ n) × (ruledb (take i rules) p q ≡ false)

@@ -5,8 +5,6 @@ use Rattle.graph.specs.declared.Side.the-variants.{Is}
 use Rattle.graph.specs.Fit.{wantOf}
 use Rattle.graph.proofs.wants.Statement.{statement}
 use Rattle.graph.proofs.wants.Tie as tie
-use Rattle.graph.proofs.wants.Reads as reads
-use Rattle.graph.proofs.wants.Lts as lts
 
 -- src/lib.rt:40:22
 enum-told : tie.Need-enum-told

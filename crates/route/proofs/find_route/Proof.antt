@@ -1,7 +1,6 @@
 -- `route::find_route` meets its contract: node by node of the queue, edge by edge that ends there, until a is reached or no node is left.
 -- Assumes nothing.
 use mathlib.Core.Logic.{⊎-elim}
-use mathlib.Core.Path.{_≡_}
 use Prim.Native.Nat.{_-_, _<_, _≤_}
 use native.Mathlib.Nat.{pos-of-ne-zero}
 use native.Mathlib.Omega.{arith}
@@ -14,12 +13,6 @@ use Rattle.route.proofs.Spreads.{start-far, spread-start, spread-shut, 
 use Rattle.route.proofs.Traced.{none-found}
 use Rattle.route.proofs.find_route.Statement.{statement}
 use Rattle.route.proofs.find_route.Tie as tie
-use Rattle.route.proofs.find_route.Reads as reads
-use Rattle.route.proofs.find_route.Lts as lts
-use Rattle.route.proofs.no_route.Reads as no-route-reads
-use Rattle.route.proofs.start.Reads as start-reads
-use Rattle.route.proofs.trace.Reads as trace-reads
-use Rattle.route.proofs.wide.Reads as wide-reads
 
 abbrev Inv-loop2 : tie.InvT-loop2
 Inv-loop2 from to links left a goal n r₀ i u d e₀ r e = Looking from to left goal i u d (r .dist) (r .via) (r .queue) (r .count) e

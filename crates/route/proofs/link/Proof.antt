@@ -10,9 +10,6 @@ use Rattle.route.proofs.Linking.{linked-none, linked-more}
 use borrow.Author.Needs.{needs}
 use Rattle.route.proofs.link.Statement.{statement}
 use Rattle.route.proofs.link.Tie as tie
-use Rattle.route.proofs.link.Reads as reads
-use Rattle.route.proofs.link.Lts as lts
-use Rattle.route.proofs.wide.Reads as wide-reads
 
 abbrev Inv-loop : tie.InvT-loop
 Inv-loop to n l₀ e₀ l e = (e ≤ length to) × (length (l .entries) ≡ most-nodes + most-edges) × Linked to (l .entries) e

@@ -6,11 +6,6 @@ use Rattle.flags.specs.Flag.{either}
 use Rattle.walk.proofs.Rest.{mark-same, mark-more}
 use Rattle.walk.proofs.marked.Statement.{statement}
 use Rattle.walk.proofs.marked.Tie as tie
-use Rattle.walk.proofs.marked.Reads as reads
-use Rattle.walk.proofs.marked.Lts as lts
-use Rattle.flags.proofs.either.Reads as either-reads
-use Rattle.flags.proofs.has.Reads as has-reads
-use Rattle.flags.proofs.word.Reads as word-reads
 
 has-requires : tie.Need-has-requires
 has-requires c κs = search needs

@@ -8,10 +8,6 @@ use Rattle.graph.specs.Limits.{most-nodes, most-orders}
 use Rattle.walk.proofs.Judged.{Judged, judged-more, judged-told, order-ends}
 use Rattle.walk.proofs.open_orders.Statement.{statement}
 use Rattle.walk.proofs.open_orders.Tie as tie
-use Rattle.walk.proofs.open_orders.Reads as reads
-use Rattle.walk.proofs.open_orders.Lts as lts
-use Rattle.walk.proofs.open_route.Reads as open-route-reads
-use Rattle.walk.proofs.making.words_of.Reads as words-of-reads
 
 abbrev Inv-loop : tie.InvT-loop
 Inv-loop words orders open₀ i₀ i-end «open» i = (i ≤ i-end) × (length «open» ≡ most-orders) × ((j : ℕ) → j < i → Judged words orders «open» j)

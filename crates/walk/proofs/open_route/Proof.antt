@@ -7,11 +7,6 @@ use Rattle.flags.proofs.Put.{put-zero-count}
 use Rattle.walk.proofs.First.{asked, short}
 use Rattle.walk.proofs.open_route.Statement.{statement}
 use Rattle.walk.proofs.open_route.Tie as tie
-use Rattle.walk.proofs.open_route.Reads as reads
-use Rattle.walk.proofs.open_route.Lts as lts
-use Rattle.flags.proofs.with.Reads as with-reads
-use Rattle.walk.proofs.hoping.into_word.Reads as into-word-reads
-use Rattle.walk.proofs.trial.Reads as trial-reads
 
 mul-after : tie.Need-mul-after
 mul-after c = search needs

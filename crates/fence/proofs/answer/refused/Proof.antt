@@ -2,9 +2,6 @@
 use borrow.Author.Needs.{needs}
 use Rattle.fence.proofs.answer.refused.Statement.{statement}
 use Rattle.fence.proofs.answer.refused.Tie as tie
-use Rattle.fence.proofs.answer.refused.Reads as reads
-use Rattle.fence.proofs.answer.refused.Lts as lts
-use Rattle.request.proofs.number.Reads as number-reads
 
 -- src/answer.rt:14:17
 number-requires : tie.Need-number-requires

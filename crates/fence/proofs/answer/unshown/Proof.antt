@@ -2,9 +2,6 @@
 use borrow.Author.Needs.{needs}
 use Rattle.fence.proofs.answer.unshown.Statement.{statement}
 use Rattle.fence.proofs.answer.unshown.Tie as tie
-use Rattle.fence.proofs.answer.unshown.Reads as reads
-use Rattle.fence.proofs.answer.unshown.Lts as lts
-use Rattle.request.proofs.number.Reads as number-reads
 
 -- src/answer.rt:26:17
 number-requires : tie.Need-number-requires

@@ -4,12 +4,6 @@ use Rattle.fence.proofs.Shows.{unknown-order, few-entries, order-nodes,
 use borrow.Author.Needs.{needs}
 use Rattle.fence.proofs.asking.ask.Statement.{statement}
 use Rattle.fence.proofs.asking.ask.Tie as tie
-use Rattle.fence.proofs.asking.ask.Reads as reads
-use Rattle.fence.proofs.asking.ask.Lts as lts
-use Rattle.fence.proofs.answer.unshown.Reads as unshown-reads
-use Rattle.fence.proofs.asking.put_route.Reads as put-route-reads
-use Rattle.walk.proofs.open_route.Reads as open-route-reads
-use Rattle.walk.proofs.making.words_of.Reads as words-of-reads
 
 -- src/asking.rt:34:9
 unshown-requires : tie.Need-unshown-requires

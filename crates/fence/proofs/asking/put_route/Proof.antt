@@ -1,7 +1,7 @@
 -- `fence::asking::put_route` meets its contract: entry by entry; what lies past the route stays.
 use lib.Seq.{length-take-le}
 use native.Mathlib.Omega.{arith}
-use Prim.Native.Nat.{ℕ, _+_, _-_, _≤_}
+use Prim.Native.Nat.{ℕ, _-_, _≤_}
 use mathlib.Core.Path.{_≡_, ap, _∙_}
 use mathlib.Core.List.{List, _++_}
 use lib.ListN.{length, take, drop, set, getD, length-set}
@@ -9,8 +9,6 @@ use Rattle.fence.proofs.Showing.{copied-none, copied-more}
 use borrow.Author.Needs.{needs}
 use Rattle.fence.proofs.asking.put_route.Statement.{statement}
 use Rattle.fence.proofs.asking.put_route.Tie as tie
-use Rattle.fence.proofs.asking.put_route.Reads as reads
-use Rattle.fence.proofs.asking.put_route.Lts as lts
 
 abbrev Inv-loop : tie.InvT-loop
 Inv-loop out₀ n nodes i₀ out i = (i ≤ n) × (length out ≡ length out₀) × (out ≡ take i nodes ++ drop i out₀)

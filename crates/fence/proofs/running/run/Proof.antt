@@ -4,15 +4,6 @@ use Rattle.fence.proofs.Fenced.{ready-orderly, full-nodes, full-edges, 
 use borrow.Author.Needs.{needs}
 use Rattle.fence.proofs.running.run.Statement.{statement}
 use Rattle.fence.proofs.running.run.Tie as tie
-use Rattle.fence.proofs.running.run.Reads as reads
-use Rattle.fence.proofs.running.run.Lts as lts
-use Rattle.cut.proofs.chosen_cut.Reads as chosen-cut-reads
-use Rattle.fence.proofs.answer.refused.Reads as refused-reads
-use Rattle.fencing.proofs.on.count.Reads as count-reads
-use Rattle.fencing.proofs.on.put_on.Reads as put-on-reads
-use Rattle.request.proofs.write.size_of.Reads as size-of-reads
-use Rattle.request.proofs.write.write_request.Reads as write-request-reads
-use Rattle.walk.proofs.open_orders.Reads as open-orders-reads
 
 -- src/running.rt:20:34
 open-orders-requires : tie.Need-open-orders-requires

@@ -4,13 +4,6 @@ use Rattle.fence.proofs.Freed.{more-asked, named-above, not-freed, smal
 use borrow.Author.Needs.{needs}
 use Rattle.fence.proofs.stripping.strip.Statement.{statement}
 use Rattle.fence.proofs.stripping.strip.Tie as tie
-use Rattle.fence.proofs.stripping.strip.Reads as reads
-use Rattle.fence.proofs.stripping.strip.Lts as lts
-use Rattle.fence.proofs.answer.refused.Reads as refused-reads
-use Rattle.fencing.proofs.off.names_above.Reads as names-above-reads
-use Rattle.fencing.proofs.off.take_off.Reads as take-off-reads
-use Rattle.request.proofs.write.size_of.Reads as size-of-reads
-use Rattle.request.proofs.write.write_request.Reads as write-request-reads
 
 -- src/stripping.rt:22:9
 refused-requires : tie.Need-refused-requires

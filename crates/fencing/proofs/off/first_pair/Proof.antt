@@ -1,7 +1,7 @@
 -- `fencing::off::first_pair` meets its contract: edge by edge; no earlier edge is the pair.
 use mathlib.Core.Logic.{⊎-elim}
 use native.Mathlib.Omega.{arith}
-use Prim.Native.Nat.{ℕ, _+_, _-_, _<_, _≤_}
+use Prim.Native.Nat.{_-_, _≤_}
 use mathlib.Core.Path.{_≡_, sym, ap, _∙_}
 use lib.ListN.{getD, take}
 use lib.Seq.{getD-take}
@@ -11,8 +11,6 @@ use Rattle.graph.proofs.Scan.{Passed, passed-none, passed-more, first-here, fir
 use borrow.Author.Needs.{needs}
 use Rattle.fencing.proofs.off.first_pair.Statement.{statement}
 use Rattle.fencing.proofs.off.first_pair.Tie as tie
-use Rattle.fencing.proofs.off.first_pair.Reads as reads
-use Rattle.fencing.proofs.off.first_pair.Lts as lts
 
 abbrev Inv-loop : tie.InvT-loop
 Inv-loop n a b edges i₀ i = (i ≤ n) × Passed (λ j. ((getD (take n edges) j no-edge) .from ≡ a) × ((getD (take n edges) j no-edge) .to ≡ b)) 0 i

@@ -1,6 +1,6 @@
 -- `fencing::off::first_start` meets its contract: edge by edge; no earlier edge starts there.
 use native.Mathlib.Omega.{arith}
-use Prim.Native.Nat.{ℕ, _+_, _-_, _<_, _≤_}
+use Prim.Native.Nat.{_-_, _≤_}
 use mathlib.Core.Path.{_≡_, sym, ap, _∙_}
 use lib.ListN.{getD, take}
 use lib.Seq.{getD-take}
@@ -10,8 +10,6 @@ use Rattle.graph.proofs.Scan.{Passed, passed-none, passed-more, first-here, fir
 use borrow.Author.Needs.{needs}
 use Rattle.fencing.proofs.off.first_start.Statement.{statement}
 use Rattle.fencing.proofs.off.first_start.Tie as tie
-use Rattle.fencing.proofs.off.first_start.Reads as reads
-use Rattle.fencing.proofs.off.first_start.Lts as lts
 
 abbrev Inv-loop : tie.InvT-loop
 Inv-loop n v edges i₀ i = (i ≤ n) × Passed (λ j. (getD (take n edges) j no-edge) .from ≡ v) 0 i

@@ -9,12 +9,6 @@ use Rattle.fencing.proofs.Tops.{Ends, Starts, SomeEdge, SomeEnd, OneEac
 use borrow.Author.Needs.{needs}
 use Rattle.fencing.proofs.off.loose.Statement.{statement}
 use Rattle.fencing.proofs.off.loose.Tie as tie
-use Rattle.fencing.proofs.off.loose.Reads as reads
-use Rattle.fencing.proofs.off.loose.Lts as lts
-use Rattle.fencing.proofs.off.first_pair.Reads as first-pair-reads
-use Rattle.fencing.proofs.off.first_start.Reads as first-start-reads
-use Rattle.fencing.proofs.off.is_fence.Reads as is-fence-reads
-use Rattle.fencing.proofs.off.next_end.Reads as next-end-reads
 
 -- the graph looked at, as the tests behind the first scan have it
 abbrev given : tie.Else3 → Value.Graph

@@ -1,6 +1,6 @@
 -- `fencing::off::names_above` meets its contract: order by order.
 use native.Mathlib.Omega.{arith}
-use Prim.Native.Nat.{ℕ, _+_, _-_, _<_, _≤_}
+use Prim.Native.Nat.{ℕ, _-_, _<_, _≤_}
 use mathlib.Core.Path.{sym}
 use lib.ListN.{getD}
 use borrow.Author.Count.{below-none, below-more}
@@ -11,8 +11,6 @@ use Rattle.fencing.proofs.Named.{named-all, named-not}
 use borrow.Author.Needs.{needs}
 use Rattle.fencing.proofs.off.names_above.Statement.{statement}
 use Rattle.fencing.proofs.off.names_above.Tie as tie
-use Rattle.fencing.proofs.off.names_above.Reads as reads
-use Rattle.fencing.proofs.off.names_above.Lts as lts
 
 abbrev Inv-loop : tie.InvT-loop
 Inv-loop n c orders k₀ k = (k ≤ n) × ((j : ℕ) → j < k → Names c (getD orders j no-order))

@@ -1,6 +1,6 @@
 -- `fencing::off::next_end` meets its contract: edge by edge; no earlier edge ends there.
 use native.Mathlib.Omega.{arith}
-use Prim.Native.Nat.{ℕ, _+_, _-_, _<_, _≤_}
+use Prim.Native.Nat.{_-_, _≤_}
 use mathlib.Core.Path.{_≡_, sym, ap, _∙_}
 use lib.ListN.{getD, take}
 use lib.Seq.{getD-take}
@@ -10,8 +10,6 @@ use Rattle.graph.proofs.Scan.{Passed, passed-none, passed-more, first-here, fir
 use borrow.Author.Needs.{needs}
 use Rattle.fencing.proofs.off.next_end.Statement.{statement}
 use Rattle.fencing.proofs.off.next_end.Tie as tie
-use Rattle.fencing.proofs.off.next_end.Reads as reads
-use Rattle.fencing.proofs.off.next_end.Lts as lts
 
 abbrev Inv-loop : tie.InvT-loop
 Inv-loop n v lo edges i₀ i = (lo ≤ i) × (i ≤ n) × Passed (λ j. (getD (take n edges) j no-edge) .to ≡ v) lo i

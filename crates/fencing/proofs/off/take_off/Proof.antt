@@ -6,10 +6,6 @@ use Rattle.fencing.proofs.Going.{Going, going-start, going-more, going-
 use borrow.Author.Needs.{needs}
 use Rattle.fencing.proofs.off.take_off.Statement.{statement}
 use Rattle.fencing.proofs.off.take_off.Tie as tie
-use Rattle.fencing.proofs.off.take_off.Reads as reads
-use Rattle.fencing.proofs.off.take_off.Lts as lts
-use Rattle.fencing.proofs.off.joined.Reads as joined-reads
-use Rattle.fencing.proofs.off.loose.Reads as loose-reads
 
 abbrev Inv-loop : tie.InvT-loop
 Inv-loop c h₀ weight₀ h weight = (c ≤ h .«node_count») × Going h₀ h weight

@@ -12,8 +12,6 @@ use lib.ListN.{length, drop}
 use borrow.Author.Needs.{needs}
 use Rattle.fencing.proofs.on.count.Statement.{statement}
 use Rattle.fencing.proofs.on.count.Tie as tie
-use Rattle.fencing.proofs.on.count.Reads as reads
-use Rattle.fencing.proofs.on.count.Lts as lts
 
 abbrev Inv-loop : tie.InvT-loop
 Inv-loop flags n₀ i₀ n i = (i ≤ 192) × (n ≤ i) × (n + length (rising i (drop i flags)) ≡ length (rising 0 flags))

@@ -12,9 +12,6 @@ use Prim.Native.Nat.{_+_, _-_, _≤_}
 use borrow.Author.Needs.{needs}
 use Rattle.fencing.proofs.on.put_on.Statement.{statement}
 use Rattle.fencing.proofs.on.put_on.Tie as tie
-use Rattle.fencing.proofs.on.put_on.Reads as reads
-use Rattle.fencing.proofs.on.put_on.Lts as lts
-use Rattle.fencing.proofs.on.with_fence.Reads as with-fence-reads
 
 abbrev Inv-loop : tie.InvT-loop
 Inv-loop flags n r₀ i₀ r i = (i ≤ n) × Along flags r₀ r i

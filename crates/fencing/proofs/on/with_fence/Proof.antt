@@ -4,8 +4,6 @@ use Rattle.fencing.proofs.Placed.{fence-put, roomy-put}
 use borrow.Author.Needs.{needs}
 use Rattle.fencing.proofs.on.with_fence.Statement.{statement}
 use Rattle.fencing.proofs.on.with_fence.Tie as tie
-use Rattle.fencing.proofs.on.with_fence.Reads as reads
-use Rattle.fencing.proofs.on.with_fence.Lts as lts
 
 -- src/lib.rt:25:13
 mul-e : tie.Need-mul-e

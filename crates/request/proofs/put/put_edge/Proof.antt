@@ -1,15 +1,9 @@
 -- `request::put::put_edge` meets its contract: the mark and the fields are the record's bytes.
-use mathlib.Core.Path.{ap}
 use native.Mathlib.Omega.{arith}
-use Rattle.request.specs.File.{node-bytes, side-bytes}
-use Rattle.request.proofs.Writing.{written-then, written-as}
+use Rattle.request.proofs.Writing.{written-then}
 use borrow.Author.Needs.{needs}
 use Rattle.request.proofs.put.put_edge.Statement.{statement}
 use Rattle.request.proofs.put.put_edge.Tie as tie
-use Rattle.request.proofs.put.put_edge.Reads as reads
-use Rattle.request.proofs.put.put_edge.Lts as lts
-use Rattle.request.proofs.put.put_two.Reads as put-two-reads
-use Rattle.request.proofs.put.put_word.Reads as put-word-reads
 
 -- src/put.rt:51:9
 put-two-requires : tie.Need-put-two-requires

@@ -1,15 +1,9 @@
 -- `request::put::put_order` meets its contract: the mark and the fields are the record's bytes.
-use mathlib.Core.Path.{ap}
 use native.Mathlib.Omega.{arith}
-use Rattle.request.specs.File.{node-bytes, side-bytes}
-use Rattle.request.proofs.Writing.{written-then, written-as}
+use Rattle.request.proofs.Writing.{written-then}
 use borrow.Author.Needs.{needs}
 use Rattle.request.proofs.put.put_order.Statement.{statement}
 use Rattle.request.proofs.put.put_order.Tie as tie
-use Rattle.request.proofs.put.put_order.Reads as reads
-use Rattle.request.proofs.put.put_order.Lts as lts
-use Rattle.request.proofs.put.put_two.Reads as put-two-reads
-use Rattle.request.proofs.put.put_word.Reads as put-word-reads
 
 -- src/put.rt:89:9
 put-two-requires : tie.Need-put-two-requires

@@ -1,15 +1,9 @@
 -- `request::put::put_rule` meets its contract: the mark and the two sides are the record's bytes.
-use mathlib.Core.Path.{ap}
 use native.Mathlib.Omega.{arith}
-use Rattle.request.specs.File.{node-bytes, side-bytes}
-use Rattle.request.proofs.Writing.{written-then, written-as}
+use Rattle.request.proofs.Writing.{written-then}
 use borrow.Author.Needs.{needs}
 use Rattle.request.proofs.put.put_rule.Statement.{statement}
 use Rattle.request.proofs.put.put_rule.Tie as tie
-use Rattle.request.proofs.put.put_rule.Reads as reads
-use Rattle.request.proofs.put.put_rule.Lts as lts
-use Rattle.request.proofs.put.put_side.Reads as put-side-reads
-use Rattle.request.proofs.put.put_two.Reads as put-two-reads
 
 -- src/put.rt:79:9
 put-two-requires : tie.Need-put-two-requires

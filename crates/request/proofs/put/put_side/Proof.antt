@@ -2,15 +2,11 @@
 use mathlib.Core.Path.{ap, _∙_}
 use Rattle.graph.specs.declared.Label.{Label}
 use Rattle.graph.specs.declared.Side.the-variants.{Is}
-use native.Mathlib.Omega.{arith}
-use Rattle.request.specs.File.{node-bytes, side-bytes}
-use Rattle.request.proofs.Writing.{written-then, written-as}
+use Rattle.request.specs.File.{side-bytes}
+use Rattle.request.proofs.Writing.{written-as}
 use borrow.Author.Needs.{needs}
 use Rattle.request.proofs.put.put_side.Statement.{statement}
 use Rattle.request.proofs.put.put_side.Tie as tie
-use Rattle.request.proofs.put.put_side.Reads as reads
-use Rattle.request.proofs.put.put_side.Lts as lts
-use Rattle.request.proofs.put.put_two.Reads as put-two-reads
 
 -- src/put.rt:63:30
 enum-told : tie.Need-enum-told

@@ -6,8 +6,6 @@ use Rattle.request.proofs.Writing.{written-two}
 use borrow.Author.Needs.{needs}
 use Rattle.request.proofs.put.put_two.Statement.{statement}
 use Rattle.request.proofs.put.put_two.Tie as tie
-use Rattle.request.proofs.put.put_two.Reads as reads
-use Rattle.request.proofs.put.put_two.Lts as lts
 
 -- src/put.rt:19:5
 slice-write-out : tie.Need-slice-write-out

@@ -4,13 +4,6 @@ use Rattle.request.proofs.Writing.{request-whole}
 use borrow.Author.Needs.{needs}
 use Rattle.request.proofs.write.write_request.Statement.{statement}
 use Rattle.request.proofs.write.write_request.Tie as tie
-use Rattle.request.proofs.write.write_request.Reads as reads
-use Rattle.request.proofs.write.write_request.Lts as lts
-use Rattle.request.proofs.put.put_two.Reads as put-two-reads
-use Rattle.request.proofs.write.put_edges.Reads as put-edges-reads
-use Rattle.request.proofs.write.put_nodes.Reads as put-nodes-reads
-use Rattle.request.proofs.write.put_orders.Reads as put-orders-reads
-use Rattle.request.proofs.write.put_rules.Reads as put-rules-reads
 
 -- src/write.rt:89:9
 put-nodes-requires : tie.Need-put-nodes-requires

@@ -13,17 +13,6 @@ use Rattle.walk.proofs.Hope.{ordered-already}
 use Rattle.walk.proofs.Reached.{Kept, kept-start, kept-on, kept-all}
 use Rattle.walk.proofs.hoping.hopeful.Statement.{statement}
 use Rattle.walk.proofs.hoping.hopeful.Tie as tie
-use Rattle.walk.proofs.hoping.hopeful.Reads as reads
-use Rattle.walk.proofs.hoping.hopeful.Lts as lts
-use Rattle.flags.proofs.both.Reads as both-reads
-use Rattle.flags.proofs.either.Reads as either-reads
-use Rattle.flags.proofs.has.Reads as has-reads
-use Rattle.flags.proofs.lowest.Reads as lowest-reads
-use Rattle.flags.proofs.with.Reads as with-reads
-use Rattle.flags.proofs.without.Reads as without-reads
-use Rattle.flags.proofs.word.Reads as word-reads
-use Rattle.walk.proofs.hoping.lower.Reads as lower-reads
-use Rattle.walk.proofs.marked.Reads as marked-reads
 
 abbrev Inv-loop : tie.InvT-loop
 Inv-loop succ fits goal into visited after v least₀ first left₀ -round₀ least left -round = (-round ≤ most-nodes * most-nodes) × (left < 2 ^ 64) × Kept succ fits into visited after v least left

@@ -10,11 +10,6 @@ use Rattle.walk.specs.Words.{listed}
 use Rattle.walk.proofs.Hope.{into-none, into-put}
 use Rattle.walk.proofs.hoping.into_word.Statement.{statement}
 use Rattle.walk.proofs.hoping.into_word.Tie as tie
-use Rattle.walk.proofs.hoping.into_word.Reads as reads
-use Rattle.walk.proofs.hoping.into_word.Lts as lts
-use Rattle.flags.proofs.has.Reads as has-reads
-use Rattle.flags.proofs.with.Reads as with-reads
-use Rattle.flags.proofs.word.Reads as word-reads
 
 abbrev Inv-loop : tie.InvT-loop
 Inv-loop fits goal into₀ p₀ into p = (p ≤ most-nodes) × Into fits goal into

@@ -13,10 +13,6 @@ use Rattle.walk.proofs.Counted.{getD-any}
 use Rattle.walk.proofs.Fill.{Gathered, gathered-none, gathered-put, gathered-skip}
 use Rattle.walk.proofs.making.fits_word.Statement.{statement}
 use Rattle.walk.proofs.making.fits_word.Tie as tie
-use Rattle.walk.proofs.making.fits_word.Reads as reads
-use Rattle.walk.proofs.making.fits_word.Lts as lts
-use Rattle.flags.proofs.with.Reads as with-reads
-use Rattle.graph.proofs.some_fits.Reads as some-fits-reads
 
 abbrev Inv-loop : tie.InvT-loop
 Inv-loop n rules m l nodes word₀ p₀ word p = (p ≤ n) × Gathered (λ k. ruledb (take m rules) l (labelAt nodes k)) p word

@@ -14,9 +14,6 @@ use Rattle.walk.proofs.Counted.{getD-any}
 use Rattle.walk.proofs.Fill.{Rows, rows-none, rows-set}
 use Rattle.walk.proofs.making.fits_words.Statement.{statement}
 use Rattle.walk.proofs.making.fits_words.Tie as tie
-use Rattle.walk.proofs.making.fits_words.Reads as reads
-use Rattle.walk.proofs.making.fits_words.Lts as lts
-use Rattle.walk.proofs.making.fits_word.Reads as fits-word-reads
 
 abbrev Inv-loop : tie.InvT-loop
 Inv-loop n rules m nodes words₀ i₀ words i =

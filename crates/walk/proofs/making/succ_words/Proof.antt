@@ -9,9 +9,6 @@ use Rattle.graph.specs.Limits.{most-nodes}
 use Rattle.walk.proofs.Fill.{Filled, filled-none, filled-put}
 use Rattle.walk.proofs.making.succ_words.Statement.{statement}
 use Rattle.walk.proofs.making.succ_words.Tie as tie
-use Rattle.walk.proofs.making.succ_words.Reads as reads
-use Rattle.walk.proofs.making.succ_words.Lts as lts
-use Rattle.flags.proofs.with.Reads as with-reads
 
 abbrev Inv-loop : tie.InvT-loop
 Inv-loop n edges words₀ i₀ words i = (i ≤ n) × (length words ≡ most-nodes) × Filled edges i words

@@ -3,10 +3,6 @@ use borrow.Author.Needs.{needs}
 use Rattle.walk.proofs.Made.{all-ends, words-made}
 use Rattle.walk.proofs.making.words_of.Statement.{statement}
 use Rattle.walk.proofs.making.words_of.Tie as tie
-use Rattle.walk.proofs.making.words_of.Reads as reads
-use Rattle.walk.proofs.making.words_of.Lts as lts
-use Rattle.walk.proofs.making.fits_words.Reads as fits-words-reads
-use Rattle.walk.proofs.making.succ_words.Reads as succ-words-reads
 
 succ-words-requires : tie.Need-succ-words-requires
 succ-words-requires c κs =

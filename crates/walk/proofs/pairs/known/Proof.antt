@@ -1,5 +1,5 @@
 -- `walk::pairs::known` meets its contract: pair by pair.
-use mathlib.Core.Path.{_≡_, sym, ap, _∙_}
+use mathlib.Core.Path.{sym, ap, _∙_}
 use Prim.Native.Nat.{ℕ, _-_, _≤_}
 use lib.ListN.{getD}
 use borrow.Author.Needs.{needs}
@@ -8,10 +8,6 @@ use Rattle.flags.proofs.Digit.{true-false}
 use Rattle.walk.proofs.Left.{none-left}
 use Rattle.walk.proofs.pairs.known.Statement.{statement}
 use Rattle.walk.proofs.pairs.known.Tie as tie
-use Rattle.walk.proofs.pairs.known.Reads as reads
-use Rattle.walk.proofs.pairs.known.Lts as lts
-use Rattle.flags.proofs.without.Reads as without-reads
-use Rattle.flags.proofs.word.Reads as word-reads
 
 abbrev Inv-loop : tie.InvT-loop
 Inv-loop nodes words n y w j₀ j = j ≤ n

@@ -5,12 +5,6 @@ use Rattle.flags.proofs.Digit.{true-false}
 use borrow.Author.Needs.{needs}
 use Rattle.walk.proofs.pairs.lost.Statement.{statement}
 use Rattle.walk.proofs.pairs.lost.Tie as tie
-use Rattle.walk.proofs.pairs.lost.Reads as reads
-use Rattle.walk.proofs.pairs.lost.Lts as lts
-use Rattle.flags.proofs.with.Reads as with-reads
-use Rattle.walk.proofs.hoping.hopeful.Reads as hopeful-reads
-use Rattle.walk.proofs.marked.Reads as marked-reads
-use Rattle.walk.proofs.pairs.some_way.Reads as some-way-reads
 
 -- src/pairs.rt:109:9
 with-requires : tie.Need-with-requires

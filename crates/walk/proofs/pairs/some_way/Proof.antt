@@ -1,7 +1,7 @@
 -- `walk::pairs::some_way` meets its contract: pair by pair, way by way.
 use mathlib.Core.Logic.{⊎-elim}
-use mathlib.Core.Path.{_≡_, refl, sym, _∙_}
-use Prim.Native.Nat.{ℕ, _-_, _<_, _^_}
+use mathlib.Core.Path.{refl, sym, _∙_}
+use Prim.Native.Nat.{_-_, _<_, _^_}
 use native.Mathlib.Omega.{arith}
 use lib.Count.{ones}
 use lib.ListN.{replicate}
@@ -14,15 +14,6 @@ use Rattle.walk.proofs.Left.{Lowest, lowest-left, none-left, done-count
 use Rattle.walk.proofs.Sifted.{Sifted, sifted-start, sifted-all, Going, going-end, going-ordered, going-known, going-add}
 use Rattle.walk.proofs.pairs.some_way.Statement.{statement}
 use Rattle.walk.proofs.pairs.some_way.Tie as tie
-use Rattle.walk.proofs.pairs.some_way.Reads as reads
-use Rattle.walk.proofs.pairs.some_way.Lts as lts
-use Rattle.flags.proofs.has.Reads as has-reads
-use Rattle.flags.proofs.lowest.Reads as lowest-reads
-use Rattle.flags.proofs.with.Reads as with-reads
-use Rattle.flags.proofs.without.Reads as without-reads
-use Rattle.flags.proofs.word.Reads as word-reads
-use Rattle.walk.proofs.marked.Reads as marked-reads
-use Rattle.walk.proofs.pairs.known.Reads as known-reads
 
 abbrev Inv-loop2 : tie.InvT-loop2
 Inv-loop2 succ fits goal visited after v nodes₀ words₀ n₀ i next before tried₀ nodes words n tried =
