@@ -89,14 +89,14 @@ pub fn decode(file: &[u8], counts: Counts) -> Graph
     let edges = values::edges(file, edges_at, counts.edges);
     let rules = values::rules(file, rules_at, counts.rules);
     let orders = values::orders(file, orders_at, counts.orders);
-    Graph {
-        nodes: nodes,
-        node_count: counts.nodes,
-        edges: edges,
-        edge_count: counts.edges,
-        rules: rules,
-        rule_count: counts.rules,
-        orders: orders,
-        order_count: counts.orders,
-    }
+    let mut g = Graph::empty();
+    g.nodes = nodes;
+    g.node_count = counts.nodes;
+    g.edges = edges;
+    g.edge_count = counts.edges;
+    g.rules = rules;
+    g.rule_count = counts.rules;
+    g.orders = orders;
+    g.order_count = counts.orders;
+    g
 }

@@ -2,6 +2,7 @@
 -- Assumes nothing.
 use mathlib.Core.Path.{refl}
 use native.Mathlib.Omega.{arith}
+use borrow.Author.Needs.{needs}
 use Rattle.request.proofs.Given.{whole-fitting, decoded}
 use Rattle.request.proofs.decode.Statement.{statement}
 use Rattle.request.proofs.decode.Tie as tie
@@ -33,11 +34,18 @@ rules-requires c κs = let f = whole-fitting _ _ (c .before .before .before .bef
 orders-requires : tie.Need-orders-requires
 orders-requires c κs = let f = whole-fitting _ _ (c .before .before .before .before .before .before .before .pre) in (omega arith, omega arith)
 
+empty-requires : tie.Need-empty-requires
+empty-requires c κs = search needs
+
 returns : tie.Need-returns
 returns c =
-    decoded _ _ _ (whole-fitting _ _ (c .before .before .before .before .before .before .before .before .pre)) refl refl refl refl
-    (c .before .before .before .nodes .ensures .0) (c .before .before .edges .ensures .0) (c .before .rules .ensures .0) (c .orders .ensures .0)
-    (record { nodes = c .before .before .before .nodes .ensures .1; edges = c .before .before .edges .ensures .1; rules = c .before .rules .ensures .1; orders = c .orders .ensures .1 })
+    let o = c .before in
+    let ru = o .before in
+    let ed = ru .before in
+    let no = ed .before in
+    decoded _ _ _ (whole-fitting _ _ (no .before .before .before .before .before .pre)) refl refl refl refl
+    (no .nodes .ensures .0) (ed .edges .ensures .0) (ru .rules .ensures .0) (o .orders .ensures .0)
+    (record { nodes = no .nodes .ensures .1; edges = ed .edges .ensures .1; rules = ru .rules .ensures .1; orders = o .orders .ensures .1 })
 
 pub decode-spec : {M : Type 1} → statement M
 decode-spec =
@@ -52,4 +60,5 @@ decode-spec =
     edges-requires
     rules-requires
     orders-requires
+    empty-requires
     returns)
