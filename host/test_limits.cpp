@@ -93,6 +93,15 @@ TEST_CASE("the greatest weights, and a cut of many edges") {
     CHECK(library::run(written(request), ample).weight == 31 * 65535);
 }
 
+TEST_CASE("a route past a turn that only seems to lead on") {
+    for (unsigned n : {1, 2, 20, 56}) {
+        const Bytes file = written(doubtful(n));
+        const Shown shown = library::ask(file, 0, 64);
+        CHECK(shown.route.size() == n + 2);
+        CHECK(shown.route == reference::ask(file, 0, 64).route);
+    }
+}
+
 TEST_CASE("the longest route has 64 nodes") {
     const Shown shown = library::ask(written(line(64)), 0, 64);
     CHECK(shown.route.size() == 64);

@@ -77,6 +77,7 @@ TEST_CASE("no call takes more stack than fence.h says") {
     for (unsigned i = 0; i < 100; ++i) measure(generate::small(random), deepest);
     for (unsigned i = 0; i < 20; ++i) measure(generate::large(random), deepest);
     measure(deep(), deepest);
+    measure(doubtful(56), deepest);
     std::printf("deepest stack met: run %zu, ask %zu, strip %zu bytes\n", deepest.run, deepest.ask, deepest.strip);
     CHECK(deepest.run < FENCE_RUN_STACK);
     CHECK(deepest.ask < FENCE_ASK_STACK);
