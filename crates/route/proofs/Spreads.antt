@@ -80,9 +80,6 @@ module _ (from to left : List ℕ) (goal : ℕ) where
         let q = y .queued (getD to x 0) (net .head x h) s in
         y .done (q .0) x h o (sym (q .2)) (inl (omega (arith, q .1)))
 
-    pub spread-few : count ≤ most-nodes
-    spread-few = omega (arith, y .all)
-
     pub spread-near : (v : ℕ) → v < most-nodes → getD dist v 0 < 255 → getD dist v 0 < count
     spread-near v h l = ⊎-elim (λ a. absurd (omega (arith, a))) (λ a. a) (y .most v h)
 
