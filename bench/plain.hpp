@@ -5,6 +5,7 @@
 #include <bitset>
 #include <cstddef>
 #include <cstdint>
+#include <vector>
 
 #include "fence.h"
 
@@ -42,6 +43,9 @@ Refusal read(const std::uint8_t *file, std::size_t length, Graph &graph);
 
 // plain_walk.cpp: a flag for each order that is asked and not held.
 std::uint32_t open_orders(const Graph &graph);
+
+// plain_walk.cpp: for each ordered pair of nodes how many nodes the walk goes on to.
+std::vector<std::uint64_t> visits(const Graph &graph);
 
 // plain_cut.cpp: the chosen cut for these orders.
 using Edges = std::bitset<most_edges>;

@@ -1,6 +1,6 @@
 #!/usr/bin/env bash
 # Times the library against a plain C++ version of its algorithm and against two integer-program solvers, on a corpus
-# made from a seed. Writes bench/TIMES.md and bench/times.svg.
+# made from a seed; and counts the visits of the walk. Writes bench/TIMES.md, bench/times.svg and bench/VISITS.md.
 #
 #     bench/run.sh [SEED]
 set -eu -o pipefail
@@ -19,6 +19,8 @@ mkdir -p "$build/programs"
 $cxx -std=c++17 -O3 -DNDEBUG -Wall -Wextra -I ../include -I "$host" -o "$build/measure" \
     measure.cpp program.cpp corpus.cpp shapes.cpp classics.cpp plain.cpp plain_read.cpp plain_walk.cpp plain_cut.cpp \
     "$host/generate.cpp" "$host/reference_read.cpp" "$archive"
+$cxx -std=c++17 -O3 -DNDEBUG -Wall -Wextra -I ../include -I "$host" -o "$build/visits" \
+    visits.cpp shapes.cpp classics.cpp plain_walk.cpp "$host/generate.cpp"
 
 if [ ${#emulator[@]} -eq 0 ]; then
     where="Library, plain version and solvers ran directly on $(uname -m)."
@@ -30,3 +32,12 @@ fi
 
 "${emulator[@]}" "$build/measure" "$seed" "$build/programs" >"$build/results.csv"
 python3 -B report.py "$build/results.csv" "$build/programs" "$where" TIMES.md times.svg
+
+cat >VISITS.md <<END
+Visits of the walk for every ordered pair of nodes of drawn graphs. Made by \`bench/run.sh $seed\`.
+
+A visit is a node that a route goes on to. Each row has ten graphs for each of 0, 2, 10 and 25 fences in 100 nodes and
+each of 4, 16, 64 and 200 addresses. Median and 99 of 100 are those of the orders with more than one visit.
+
+END
+"${emulator[@]}" "$build/visits" "$seed" >>VISITS.md
