@@ -44,14 +44,8 @@ private:
 class Search {
 public:
     Search(const Graph &graph, std::uint32_t open) : graph_(graph) {
-        for (unsigned i = 0; i < graph.edge_count; ++i) {
-            out_.count(graph.edges[i].from);
-            in_.count(graph.edges[i].to);
-        }
-        for (unsigned i = 0; i < graph.edge_count; ++i) {
-            out_.add(graph.edges[i].from, i);
-            in_.add(graph.edges[i].to, i);
-        }
+        for (unsigned i = 0; i < graph.edge_count; ++i) in_.count(graph.edges[i].to);
+        for (unsigned i = 0; i < graph.edge_count; ++i) in_.add(graph.edges[i].to, i);
         sort_by_distance(open);
     }
 
@@ -78,31 +72,25 @@ public:
     }
 
 private:
-    // A route with the fewest edges among those with something left, of several the one with the lowest edge at
-    // each node; length 0 where there is none.
+    // A route with the fewest edges among those with something left, found from its end; length 0 where there is none.
     Path route(const Order &order, const std::uint16_t *left) const {
-        std::uint8_t distance[most_nodes], queue[most_nodes];
-        std::fill(distance, distance + graph_.node_count, none);
+        std::uint8_t via[most_nodes], queue[most_nodes];
+        std::fill(via, via + graph_.node_count, none);
         unsigned head = 0, tail = 0;
-        distance[order.second] = 0;
         queue[tail++] = static_cast<std::uint8_t>(order.second);
-        while (head < tail && distance[order.first] == none) {
+        while (head < tail && via[order.first] == none) {
             const unsigned node = queue[head++];
             for (const std::uint8_t *e = in_.begin(node); e != in_.end(node); ++e) {
                 const unsigned from = graph_.edges[*e].from;
-                if (left[*e] == 0 || distance[from] != none) continue;
-                distance[from] = static_cast<std::uint8_t>(distance[node] + 1);
+                if (left[*e] == 0 || via[from] != none || from == order.second) continue;
+                via[from] = *e;
                 queue[tail++] = static_cast<std::uint8_t>(from);
             }
         }
         Path path;
-        if (distance[order.first] == none) return path;
-        for (unsigned node = order.first; node != order.second;
-             node = graph_.edges[path.edges[path.length - 1]].to) {
-            const std::uint8_t *e = out_.begin(node);
-            while (left[*e] == 0 || distance[graph_.edges[*e].to] != distance[node] - 1) ++e;
-            path.edges[path.length++] = *e;
-        }
+        if (via[order.first] == none) return path;
+        for (unsigned node = order.first; node != order.second; node = graph_.edges[via[node]].to)
+            path.edges[path.length++] = via[node];
         return path;
     }
 
@@ -161,7 +149,7 @@ private:
 
     static constexpr std::uint8_t none = 255;
     const Graph &graph_;
-    Lists out_, in_;
+    Lists in_;
     unsigned near_[most_orders], near_count_ = 0;
 };
 

@@ -1,68 +1,38 @@
 -- What the search is given of a graph by value, and what its answer says of that graph.
 -- Assumes nothing.
 use mathlib.Core.Bool.{Bool, true, false}
-use mathlib.Core.List.{List, [], _∷_, List·Memᴰ}
-use mathlib.Core.Logic.{_⊎_, inl, inr, ⊎-elim, _≢_}
+use mathlib.Core.List.{List, List·Memᴰ}
+use mathlib.Core.Logic.{_⊎_, inl, inr, _≢_}
 use mathlib.Core.Path.{_≡_, refl, sym, ap, _∙_, subst⁻¹}
-use Prim.Native.Nat.{ℕ, zero, suc, _<_, _≤_}
+use Prim.Native.Nat.{ℕ, _<_, _≤_}
 use native.Mathlib.Omega.{arith}
-use lib.ListN.{length, getD, take}
-use lib.Seq.{getD-take, length-take-le}
+use lib.ListN.{length, getD}
+use lib.Seq.{length-take-le}
 use Rattle.cut.specs.declared.Cut.{Cut}
-use Rattle.graph.specs.declared.Edge.{Edge}
-use Rattle.graph.specs.declared.Node.{Node}
 use Rattle.graph.specs.declared.Order.{Order}
 use Rattle.cut.specs.Apart.{Apart, Known}
 use Rattle.cut.specs.Chosen.{Chosen}
-use Rattle.cut.specs.Given.{Ends, Copied, Named, Differ, Gathered}
+use Rattle.cut.specs.Given.{Copied, Differ, Gathered}
 use Rattle.cut.specs.Made.{Made}
 use Rattle.cut.specs.Sets.{Least}
-use Rattle.graph.specs.Graph.{Sound, Orderly, no-edge, order, no-order}
+use Rattle.graph.specs.Graph.{Sound, Orderly, order, no-order}
 use Rattle.graph.specs.Held.{Held, Open}
-use Rattle.graph.specs.Limits.{most-nodes, most-edges, most-orders}
-use Rattle.graph.specs.Value.{labels, graphOf, rulesOf, ordersOf, Sized, Told}
+use Rattle.graph.specs.Limits.{most-edges, most-orders}
+use Rattle.graph.specs.Value.{graphOf, rulesOf, ordersOf, Sized, Told}
 use Rattle.route.specs.Way.{Linked, Net}
 use Rattle.cut.proofs.Drawn.{Drawn, lent, lent-long, lent-at, copied-drawn, drawn-net}
 use Rattle.cut.proofs.Facts.{bool}
 use Rattle.cut.proofs.Separated.{Asks, chosen-of, weight-of}
+use Rattle.graph.proofs.Counted.{nodes-few}
+use Rattle.graph.proofs.Value.{order-at}
 use Rattle.graph.proofs.Members.{at-mem, mem-at}
 use Rattle.graph.specs.declared.Graph as Value
 
-labels-most : (n : ℕ) (ns : List Node) → length (labels (take n ns)) ≤ n
-labels-most zero ns = omega arith
-labels-most (suc n) [] = omega arith
-labels-most (suc n) (x ∷ ns) = omega (arith, labels-most n ns)
-
--- an element of an array is one of the first n, or stands past the array's end
-among : {A : Type 0} (l : List A) (n i : ℕ) (d : A) → i < n → ((i < length (take n l)) × (getD (take n l) i d ≡ getD l i d)) ⊎ (getD l i d ≡ d)
-among [] n i d h = inr refl
-among (x ∷ l) zero i d h = absurd (omega arith)
-among (x ∷ l) (suc n) zero d h = inl (omega arith, refl)
-among (x ∷ l) (suc n) (suc i) d h = ⊎-elim (λ a. inl (omega (arith, a .0), a .1)) inr (among l n i d (omega arith))
-
 module _ (g : Value.Graph) (sized : Sized g) where
-  nodes-few : length (graphOf g .nodes) ≤ most-nodes
-  nodes-few = omega (arith, labels-most (g .«node_count») (g .nodes), sized .nodes)
-
-  pub given-ends : Sound (graphOf g) → Ends (g .edges) (g .«edge_count»)
-  given-ends sound e h = ⊎-elim
-      (λ a. let s = sound .ends e (a .0) in (omega (arith, s .0, ap (λ (x : Edge). x .from) (a .1), nodes-few), omega (arith, s .1, ap (λ (x : Edge). x .to) (a .1), nodes-few)))
-      (λ z. (omega (arith, ap (λ (x : Edge). x .from) z), omega (arith, ap (λ (x : Edge). x .to) z)))
-      (among (g .edges) (g .«edge_count») e no-edge h)
-
   module _ (orderly : Orderly (g .«node_count») (ordersOf g)) where
-    pub given-names : Named (g .orders) (g .«order_count»)
-    given-names i h = ⊎-elim
-        (λ a. let s = orderly .ends i (a .0) in (omega (arith, s .0, ap (λ (x : Order). x .first) (a .1), sized .nodes), omega (arith, s .1, ap (λ (x : Order). x .second) (a .1), sized .nodes)))
-        (λ z. (omega (arith, ap (λ (x : Order). x .first) z), omega (arith, ap (λ (x : Order). x .second) z)))
-        (among (g .orders) (g .«order_count») i no-order h)
-
     module _ (lo : length (g .orders) ≡ most-orders) (flags : List Bool) (us vs : List ℕ) (n : ℕ) (y : Gathered (g .orders) flags us vs n (g .«order_count»)) where
       orders-long : length (ordersOf g) ≡ g .«order_count»
       orders-long = length-take-le (g .«order_count») (g .orders) (omega (arith, lo, sized .orders))
-
-      order-at : (i : ℕ) → i < g .«order_count» → order (g .orders) i ≡ order (ordersOf g) i
-      order-at i h = sym (getD-take (g .«order_count») (g .orders) i no-order h)
 
       pairs-few : n ≤ most-orders
       pairs-few = omega (arith, y .few, sized .orders)
@@ -80,8 +50,8 @@ module _ (g : Value.Graph) (sized : Sized g) where
       given-differ k h =
           let e = y .each k h in
           let s = orderly .ends (e .0) (omega (arith, e .1, orders-long)) in
-          let p = e .3 .0 ∙ ap (λ (x : Order). x .first) (order-at (e .0) (e .1)) in
-          let q = e .3 .1 ∙ ap (λ (x : Order). x .second) (order-at (e .0) (e .1)) in
+          let p = e .3 .0 ∙ ap (λ (x : Order). x .first) (sym (order-at g (e .0) (e .1))) in
+          let q = e .3 .1 ∙ ap (λ (x : Order). x .second) (sym (order-at g (e .0) (e .1))) in
           (omega (arith, p, s .0, sized .nodes), omega (arith, q, s .1, sized .nodes), λ z. s .2 (sym p ∙ z ∙ q))
 
       given-asks : Told g flags → Asks (graphOf g) (rulesOf g) (ordersOf g) (lent n us) (lent n vs)
@@ -93,8 +63,8 @@ module _ (g : Value.Graph) (sized : Sized g) where
               order (ordersOf g) i,
               at-mem no-order (ordersOf g) i li,
               told .is-open i li (e .2),
-              lent-at n us k l ∙ e .3 .0 ∙ ap (λ (x : Order). x .first) (order-at i (e .1)),
-              lent-at n vs k l ∙ e .3 .1 ∙ ap (λ (x : Order). x .second) (order-at i (e .1)),
+              lent-at n us k l ∙ e .3 .0 ∙ ap (λ (x : Order). x .first) (sym (order-at g i (e .1))),
+              lent-at n vs k l ∙ e .3 .1 ∙ ap (λ (x : Order). x .second) (sym (order-at g i (e .1))),
             );
         all = λ o m op. let at = mem-at no-order (ordersOf g) m in found o op (at .0) (at .1) (at .2) (bool (getD flags (at .0) false));
       }
@@ -105,7 +75,7 @@ module _ (g : Value.Graph) (sized : Sized g) where
           found o op i li q (inl f) =
               let h : i < g .«order_count» = omega (arith, li, orders-long) in
               let e = y .all i h f in
-              let same = order-at i h ∙ sym q in
+              let same = sym (order-at g i h) ∙ sym q in
               (e .0, omega (arith, e .1, firsts-long), lent-at n us (e .0) (e .1) ∙ e .2 .0 ∙ ap (λ (x : Order). x .first) same, lent-at n vs (e .0) (e .1) ∙ e .2 .1 ∙ ap (λ (x : Order). x .second) same)
 
       module _ (sound : Sound (graphOf g)) (le : length (g .edges) ≡ most-edges) (xs ys ws : List ℕ) (c : Copied (g .edges) xs ys ws (g .«edge_count»)) where
@@ -116,7 +86,7 @@ module _ (g : Value.Graph) (sized : Sized g) where
         drawn = copied-drawn (g .edges) (graphOf g) xs ys ws (g .«edge_count») refl le (sized .edges) c
 
         pub given-net : Net (lent (g .«edge_count») xs) (lent (g .«edge_count») ys)
-        given-net = drawn-net (graphOf g) (lent (g .«edge_count») xs) (lent (g .«edge_count») ys) (lent (g .«edge_count») ws) sound nodes-few edges-few drawn
+        given-net = drawn-net (graphOf g) (lent (g .«edge_count») xs) (lent (g .«edge_count») ys) (lent (g .«edge_count») ws) sound (nodes-few g sized) edges-few drawn
 
         pub given-known : (links : List ℕ) → Linked (lent (g .«edge_count») ys) links 0 → Known (lent (g .«edge_count») xs) (lent (g .«edge_count») ys) links (lent (g .«edge_count») ws) (lent n us) (lent n vs)
         given-known links linked = record {

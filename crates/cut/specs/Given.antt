@@ -13,18 +13,10 @@ use Rattle.cut.specs.Sets.{Has}
 use Rattle.graph.specs.Graph.{no-edge, order}
 use Rattle.graph.specs.Limits.{most-nodes, most-edges, most-orders}
 
--- the first n edges end at nodes
-abbrev pub Ends : List Edge → ℕ → Type 0
-Ends edges n = (e : ℕ) → e < n → ((getD edges e no-edge) .from < most-nodes) × ((getD edges e no-edge) .to < most-nodes)
-
 -- the first n of each list are the ends and the weights of the first n edges
 pub record Copied (edges : List Edge) (xs ys ws : List ℕ) (n : ℕ) : Type 0 where
   pub sizes : (length xs ≡ most-edges) × (length ys ≡ most-edges) × (length ws ≡ most-edges)
   pub each : (e : ℕ) → e < n → (getD xs e 0 ≡ (getD edges e no-edge) .from) × (getD ys e 0 ≡ (getD edges e no-edge) .to) × (getD ws e 0 ≡ (getD edges e no-edge) .weight)
-
--- the first m orders name nodes
-abbrev pub Named : List Order → ℕ → Type 0
-Named orders m = (i : ℕ) → i < m → ((order orders i) .first < most-nodes) × ((order orders i) .second < most-nodes)
 
 -- the first n pairs are of different nodes
 abbrev pub Differ : List ℕ → List ℕ → ℕ → Type 0

@@ -3,7 +3,8 @@ ghost use mathlib.Core.Path.{_≡_};
 ghost use Prim.Native.Nat.{_<_, _≤_};
 ghost use lib.ListN.{length};
 ghost use Rattle.graph.specs.Limits.{most-edges};
-ghost use Rattle.cut.specs.Given.{Ends, Copied};
+ghost use Rattle.graph.specs.Value.{Ends};
+ghost use Rattle.cut.specs.Given.{Copied};
 use graph::Edge;
 use graph::Graph;
 

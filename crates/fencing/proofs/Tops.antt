@@ -28,12 +28,12 @@ abbrev pub last : Value.Graph → ℕ
 last g = g .«edge_count» - 1
 
 -- edge j ends at the highest node
-abbrev pub Ends : Value.Graph → ℕ → Type 0
-Ends g j = (edge (graphOf g) j) .to ≡ highest g
+abbrev pub EndsThere : Value.Graph → ℕ → Type 0
+EndsThere g j = (edge (graphOf g) j) .to ≡ highest g
 
 -- edge j starts at the highest node
-abbrev pub Starts : Value.Graph → ℕ → Type 0
-Starts g j = (edge (graphOf g) j) .from ≡ highest g
+abbrev pub StartsThere : Value.Graph → ℕ → Type 0
+StartsThere g j = (edge (graphOf g) j) .from ≡ highest g
 
 -- the edge that is read at place i
 abbrev pub read : Value.Graph → ℕ → Edge
@@ -59,13 +59,13 @@ pub record SomeEnd (g : Value.Graph) (i : ℕ) : Type 0 where
   pub some-edge : SomeEdge g
   pub is-fence : label (graphOf g) (highest g) ≡ Fence
   pub two : i < last g
-  pub ends : FirstFrom (Ends g) 0 (g .«edge_count») i
+  pub ends : FirstFrom (EndsThere g) 0 (g .«edge_count») i
 
 -- known once no later edge ends there, and no edge before the last starts there
 pub record OneEach (g : Value.Graph) (i : ℕ) : Type 0 where
   pub some-end : SomeEnd g i
-  pub no-more : FirstFrom (Ends g) (i + 1) (g .«edge_count») (g .«edge_count»)
-  pub starts : FirstFrom (Starts g) 0 (g .«edge_count») (last g)
+  pub no-more : FirstFrom (EndsThere g) (i + 1) (g .«edge_count») (g .«edge_count»)
+  pub starts : FirstFrom (StartsThere g) 0 (g .«edge_count») (last g)
 
 -- way out: there is no edge
 pub none-empty : (g : Value.Graph) → Sized g → Roomy g → g .«edge_count» ≡ 0 → None g
@@ -107,11 +107,11 @@ module _ {g : Value.Graph} (b : SomeEdge g) where
       so Fence e = refl
 
   -- way out: no edge but the last ends there
-  pub none-end : {i : ℕ} → FirstFrom (Ends g) 0 (g .«edge_count») i → last g ≤ i → None g
+  pub none-end : {i : ℕ} → FirstFrom (EndsThere g) 0 (g .«edge_count») i → last g ≤ i → None g
   none-end ends h = denied (λ k x. ends .none k (omega arith) (omega (arith, x .two)) (x .ends))
 
   -- way out: no edge starts there, or one before the last
-  pub none-start : {j : ℕ} → FirstFrom (Starts g) 0 (g .«edge_count») j → (j ≡ last g → ⊥) → None g
+  pub none-start : {j : ℕ} → FirstFrom (StartsThere g) 0 (g .«edge_count») j → (j ≡ last g → ⊥) → None g
   none-start {j} starts f = denied (λ k x. go k x (ℕ-discrete j (g .«edge_count»)))
     where
       go : (k : ℕ) → Loose (graphOf g) (highest g) k (last g) → Dec (j ≡ g .«edge_count») → ⊥
@@ -126,7 +126,7 @@ module _ {g : Value.Graph} {i : ℕ} (o : SomeEnd g i) where
   same k x = x .ends-only i (omega (arith, o .two, edges (o .some-edge))) (o .ends .here (omega (arith, o .two)))
 
   -- way out: a second edge ends there
-  pub none-more : {j : ℕ} → FirstFrom (Ends g) (i + 1) (g .«edge_count») j → j < g .«edge_count» → None g
+  pub none-more : {j : ℕ} → FirstFrom (EndsThere g) (i + 1) (g .«edge_count») j → j < g .«edge_count» → None g
   none-more {j} more h = denied (o .some-edge) (λ k x.
       let e : j ≡ k = x .ends-only j (omega (arith, edges (o .some-edge))) (more .here h) in
       let z : ⊥ = omega (arith, same k x, more .low) in
@@ -175,11 +175,11 @@ loose-there {g} {i} {p} s agree pair h = loose (highest g) (last g) record {
     b : SomeEdge g
     b = o .some-edge
 
-    only : (q : ℕ) → q < g .«edge_count» → Ends g q → Dec (q < i) → Dec (q ≡ i) → q ≡ i
+    only : (q : ℕ) → q < g .«edge_count» → EndsThere g q → Dec (q < i) → Dec (q ≡ i) → q ≡ i
     only q a e w (yes d) = d
     only q a e (yes w) (no d) = absurd (o .ends .none q (omega arith) w e)
     only q a e (no w) (no d) = absurd (s .no-more .none q (omega (arith, d, w)) a e)
 
-    first-only : (q : ℕ) → q < g .«edge_count» → Starts g q → Dec (q ≡ last g) → q ≡ last g
+    first-only : (q : ℕ) → q < g .«edge_count» → StartsThere g q → Dec (q ≡ last g) → q ≡ last g
     first-only q a e (yes d) = d
     first-only q a e (no d) = absurd (s .starts .none q (omega arith) (omega (arith, d)) e)

@@ -18,6 +18,7 @@ pub mod Joined
 pub mod Runs
 pub mod Members
 pub mod Value
+pub mod Counted
 pub mod Scan
 pub mod Demands
 pub mod Samples

@@ -10,7 +10,7 @@ use lib.Seq.{getD-take, length-take-le}
 use Rattle.graph.specs.declared.Label.{Label}
 use Rattle.graph.specs.declared.Label.the-variants.{Fence}
 use Rattle.graph.specs.declared.Node.{Node}
-use Rattle.graph.specs.Graph.{edge, no-edge, label}
+use Rattle.graph.specs.Graph.{edge, no-edge, label, order, no-order}
 use Rattle.graph.specs.Value.{Roomy, Sized, graphOf, labels, ordersOf, rulesOf}
 use Rattle.graph.specs.declared.Graph as Value
 
@@ -37,6 +37,9 @@ module _ (g : Value.Graph) (sized : Sized g) (roomy : Roomy g) where
 
 pub edge-at : (g : Value.Graph) (i : ℕ) → i < g .«edge_count» → edge (graphOf g) i ≡ getD (g .edges) i no-edge
 edge-at g i h = getD-take (g .«edge_count») (g .edges) i no-edge h
+
+pub order-at : (g : Value.Graph) (i : ℕ) → i < g .«order_count» → order (ordersOf g) i ≡ order (g .orders) i
+order-at g i h = getD-take (g .«order_count») (g .orders) i no-order h
 
 labels-at : (ns : List Node) (v : ℕ) (d : Node) → v < length ns → getD (labels ns) v Fence ≡ (getD ns v d) .label
 labels-at [] v d h = absurd (not-suc-le-zero h)

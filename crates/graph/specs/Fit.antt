@@ -49,7 +49,7 @@ wantOf (Is Fence) (Store a) = Never
 wantOf (Is Fence) (Load a) = Never
 wantOf (Is Fence) Fence = Free
 
--- the second, if the first is so
+-- for "under one assignment": the second, if the first is so
 abbrev pub ifSame : Bool → Bool → Bool
 ifSame true b = b
 ifSame false b = true
@@ -68,7 +68,7 @@ agree (Var x m) (Var y n) = ifSame (eqb x y) (eqb m n)
 abbrev pub fitOf : Rule → Label → Label → Bool
 fitOf r p q = agree (wantOf (r .left) p) (wantOf (r .right) q)
 
--- some of a list passes
+-- for "some rule": some of a list passes
 module _ {A : Type 0} where
   abbrev pub someb : (A → Bool) → List A → Bool
   someb f [] = false

@@ -23,7 +23,7 @@ no-graph = record { nodes = []; edges = [] }
 abbrev pub label : Graph → ℕ → Label
 label g x = getD (g .nodes) x Fence
 
--- read past the last edge
+-- beside "edges .. are numbered from 0": what is read past the last
 abbrev pub no-edge : Edge
 no-edge = record { from = 0; to = 0; weight = 0 }
 
@@ -36,7 +36,7 @@ pub record Sound (g : Graph) : Type 0 where
   pub ends : (i : ℕ) → i < length (g .edges) → ((edge g i) .from < length (g .nodes)) × ((edge g i) .to < length (g .nodes)) × (1 ≤ (edge g i) .weight)
   pub pairs : (i j : ℕ) → i < length (g .edges) → j < length (g .edges) → (edge g i) .from ≡ (edge g j) .from → (edge g i) .to ≡ (edge g j) .to → i ≡ j
 
--- read past the last order
+-- beside "orders are numbered from 0": what is read past the last
 abbrev pub no-order : Order
 no-order = record { first = 0; second = 0 }
 

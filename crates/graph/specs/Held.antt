@@ -11,7 +11,7 @@ use Rattle.graph.specs.declared.Rule.{Rule}
 use Rattle.graph.specs.Fit.{Ruled}
 use Rattle.graph.specs.Graph.{Graph, label, edge}
 
--- P is so of each of these
+-- for "no node twice": P is so of each of these
 abbrev pub Each : (ℕ → Type 0) → List ℕ → Type 0
 Each P [] = Unit {0}
 Each P (y ∷ ys) = P y × Each P ys
@@ -20,7 +20,7 @@ Each P (y ∷ ys) = P y × Each P ys
 abbrev pub Absent : ℕ → List ℕ → Type 0
 Absent x ys = Each (λ y. x ≢ y) ys
 
--- each of these is below m
+-- for "nodes .. are numbered from 0": each of these is below m
 abbrev pub Within : ℕ → List ℕ → Type 0
 Within m ys = Each (λ y. y < m) ys
 

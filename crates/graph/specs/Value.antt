@@ -5,11 +5,12 @@ use mathlib.Core.List.{List, [], _∷_}
 use mathlib.Core.Path.{_≡_}
 use Prim.Native.Nat.{ℕ, _≤_, _<_, suc}
 use lib.ListN.{take, getD, length}
+use Rattle.graph.specs.declared.Edge.{Edge}
 use Rattle.graph.specs.declared.Label.{Label}
 use Rattle.graph.specs.declared.Node.{Node}
 use Rattle.graph.specs.declared.Order.{Order}
 use Rattle.graph.specs.declared.Rule.{Rule}
-use Rattle.graph.specs.Graph.{Graph, order}
+use Rattle.graph.specs.Graph.{Graph, no-edge, order}
 use Rattle.graph.specs.Held.{Held, Open}
 use Rattle.graph.specs.Limits.{most-nodes, most-edges, most-rules, most-orders}
 use Rattle.graph.specs.declared.Graph as Value
@@ -44,6 +45,14 @@ pub record Roomy (g : Value.Graph) : Type 0 where
   pub edges : length (g .edges) ≡ most-edges
   pub rules : length (g .rules) ≡ most-rules
   pub orders : length (g .orders) ≡ most-orders
+
+-- the first n edges start and end at nodes
+abbrev pub Ends : List Edge → ℕ → Type 0
+Ends edges n = (i : ℕ) → i < n → ((getD edges i no-edge) .from < most-nodes) × ((getD edges i no-edge) .to < most-nodes)
+
+-- the first n orders name nodes
+abbrev pub Named : List Order → ℕ → Type 0
+Named orders n = (i : ℕ) → i < n → ((order orders i) .first < most-nodes) × ((order orders i) .second < most-nodes)
 
 -- flag i tells whether order i is open
 pub record Told (g : Value.Graph) (flags : List Bool) : Type 0 where

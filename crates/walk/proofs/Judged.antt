@@ -6,24 +6,24 @@ use mathlib.Core.Path.{_≡_, sym, ap, subst⁻¹, _∙_}
 use Prim.Native.Nat.{ℕ, _+_, _≤_, _<_}
 use native.Mathlib.Decide.{ℕ-discrete}
 use native.Mathlib.Omega.{arith}
-use lib.Dec.{ltb, lit<}
+use lib.Dec.{ltb}
 use lib.ListN.{length, take, getD, set}
-use lib.Seq.{getD-take, getD-set-same, getD-set-other, length-take-le}
+use lib.Seq.{getD-set-same, getD-set-other, length-take-le}
 use borrow.Author.Tests.{lt-ltb, le-ltb}
 use Rattle.flags.proofs.Digit.{true-false}
 use Rattle.graph.specs.declared.Graph.{Graph}
 use Rattle.graph.specs.declared.Order.{Order}
 use Rattle.graph.specs.declared.Rule.{Rule}
 use Rattle.graph.specs.Ask.{AskedWithout, is-held, is-open}
-use Rattle.graph.specs.Graph.{Orderly, no-order, order}
+use Rattle.graph.specs.Graph.{order}
 use Rattle.graph.specs.Graph as Drawn
 use Rattle.graph.specs.Held.{Held, HeldWithout, Open}
-use Rattle.graph.specs.Limits.{most-nodes}
 use Rattle.graph.specs.Value.{graphOf, rulesOf, ordersOf, Sized, Told}
 use Rattle.walk.specs.declared.Way.{Way}
 use Rattle.walk.specs.declared.Words.{Words}
 use Rattle.walk.specs.Words.{AskedOf, WordsOf}
-use Rattle.walk.proofs.Counted.{counted-below, counted-each, labels-few}
+use Rattle.graph.proofs.Value.{order-at}
+use Rattle.graph.proofs.Counted.{counted-below}
 
 -- ---- what `open_orders` keeps: the flags below i are right
 
@@ -57,15 +57,6 @@ unshown-held route (is-held h) e = h
 unshown-held {b = b} route (is-open {between = l} s) e = absurd (true-false (sym (lt-ltb 0 (length route) (omega arith)) ∙ e))
 
 module _ (g : Graph) (sized : Sized g) where
-  order-at : (i : ℕ) → i < g .«order_count» → order (ordersOf g) i ≡ order (g .orders) i
-  order-at i h = getD-take (g .«order_count») (g .orders) i no-order h
-
-  -- what the walk asks of an order's nodes
-  pub order-ends : Orderly (length ((graphOf g) .nodes)) (ordersOf g) → (i : ℕ) → i < g .«order_count»
-      → (order (g .orders) i .first < most-nodes) × (order (g .orders) i .second < most-nodes)
-  order-ends orderly = counted-each (λ o. (o .first < most-nodes) × (o .second < most-nodes)) no-order (lit< tt, lit< tt) (g .«order_count») (g .orders)
-      (λ i h. let s = orderly .ends i h in let n = labels-few (g .nodes) (g .«node_count») in (omega (arith, s .0, sized .nodes), omega (arith, s .1, sized .nodes)))
-
   pub judged-told : (words : Words) (flags : List Bool) → WordsOf (graphOf g) (rulesOf g) [] words → ((j : ℕ) → j < g .«order_count» → Judged words (g .orders) flags j) → Told g flags
   judged-told words flags of judged = record { is-open = open′; is-held = held′ }
     where
@@ -75,9 +66,9 @@ module _ (g : Graph) (sized : Sized g) where
       open′ : (i : ℕ) → i < length (ordersOf g) → getD flags i false ≡ true → Open (graphOf g) (rulesOf g) (order (ordersOf g) i)
       open′ i h e =
           let r = judged i (below i h) in
-          subst⁻¹ (Open (graphOf g) (rulesOf g)) (order-at i (below i h)) (shown-open (r .0) (r .1 (graphOf g) (rulesOf g) [] of) (sym (r .2) ∙ e))
+          subst⁻¹ (Open (graphOf g) (rulesOf g)) (order-at g i (below i h)) (shown-open (r .0) (r .1 (graphOf g) (rulesOf g) [] of) (sym (r .2) ∙ e))
 
       held′ : (i : ℕ) → i < length (ordersOf g) → getD flags i false ≡ false → Held (graphOf g) (rulesOf g) (order (ordersOf g) i)
       held′ i h e =
           let r = judged i (below i h) in
-          subst⁻¹ (Held (graphOf g) (rulesOf g)) (order-at i (below i h)) (unshown-held (r .0) (r .1 (graphOf g) (rulesOf g) [] of) (sym (r .2) ∙ e))
+          subst⁻¹ (Held (graphOf g) (rulesOf g)) (order-at g i (below i h)) (unshown-held (r .0) (r .1 (graphOf g) (rulesOf g) [] of) (sym (r .2) ∙ e))

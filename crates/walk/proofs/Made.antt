@@ -4,10 +4,9 @@ use mathlib.Core.Bool.{Bool, true, _&&_}
 use mathlib.Core.List.{List, [], _∷_}
 use mathlib.Core.Logic.{_↔_}
 use mathlib.Core.Path.{_≡_, refl, sym, ap, ap₂, _∙_}
-use Prim.Native.Nat.{ℕ, zero, suc, _≤_, _<_}
+use Prim.Native.Nat.{ℕ, zero, suc, _<_}
 use native.Mathlib.Nat.{le-of-suc-le-suc, not-suc-le-zero}
 use native.Mathlib.Omega.{arith}
-use lib.Dec.{lit<}
 use lib.ListN.{length, take, getD, length-take}
 use borrow.Author.Tests.{lt-ltb}
 use denote.Floats.{is-true, passes}
@@ -17,14 +16,13 @@ use Rattle.graph.specs.declared.Graph.{Graph}
 use Rattle.graph.specs.declared.Label.the-variants.{Fence}
 use Rattle.graph.specs.declared.Node.{Node}
 use Rattle.graph.specs.Fit.{Ruled, ruledb}
-use Rattle.graph.specs.Graph.{Sound, label, no-edge}
+use Rattle.graph.specs.Graph.{Sound, label}
 use Rattle.graph.specs.Held.{Step}
-use Rattle.graph.specs.Limits.{most-nodes}
 use Rattle.graph.specs.Value.{labels, graphOf, rulesOf, Sized}
 use Rattle.graph.proofs.Ruled.{says-ruled}
 use Rattle.walk.specs.declared.Words.{Words}
-use Rattle.walk.specs.Words.{WordsOf, listed, Ends, Led, labelAt, fitIn}
-use Rattle.walk.proofs.Counted.{counted-below, counted-each, labels-few}
+use Rattle.walk.specs.Words.{WordsOf, listed, Led, labelAt, fitIn}
+use Rattle.graph.proofs.Counted.{counted-below, labels-few}
 
 label-take : (ns : List Node) (n p : ℕ) → p < length (labels (take n ns)) → getD (labels (take n ns)) p Fence ≡ labelAt ns p
 label-take ns zero p h = absurd (not-suc-le-zero h)
@@ -33,14 +31,6 @@ label-take (x ∷ ns) (suc n) zero h = refl
 label-take (x ∷ ns) (suc n) (suc p) h = label-take ns n p (le-of-suc-le-suc h)
 
 module _ (g : Graph) (sized : Sized g) (sound : Sound (graphOf g)) where
-  node-count : length ((graphOf g) .nodes) ≤ g .«node_count»
-  node-count = labels-few (g .nodes) (g .«node_count»)
-
-  -- what `succ_words` asks for
-  pub all-ends : Ends (g .edges) (g .«edge_count»)
-  all-ends = counted-each (λ e. (e .from < most-nodes) × (e .to < most-nodes)) no-edge (lit< tt, lit< tt) (g .«edge_count») (g .edges)
-      (λ i h. let s = sound .ends i h in (omega (arith, s .0, node-count, sized .nodes), omega (arith, s .1, node-count, sized .nodes)))
-
   led-step : (p q : ℕ) → Led (g .edges) (g .«edge_count») p q → Step (graphOf g) [] p q
   led-step p q (j, h, k, f, t) = (
     j,
@@ -79,6 +69,6 @@ module _ (g : Graph) (sized : Sized g) (sound : Sound (graphOf g)) where
           let test : listed (words .fits) p q ≡ ruledb (rulesOf g) (label (graphOf g) p) (label (graphOf g) q) =
           fit p q
           ∙ ap₂ (λ (x y : Bool). x && (y && ruledb (rulesOf g) (labelAt (g .nodes) p) (labelAt (g .nodes) q)))
-          (lt-ltb p (g .«node_count») (omega (arith, h, node-count))) (lt-ltb q (g .«node_count») (omega (arith, k, node-count)))
+          (lt-ltb p (g .«node_count») (omega (arith, h, labels-few (g .nodes) (g .«node_count»)))) (lt-ltb q (g .«node_count») (omega (arith, k, labels-few (g .nodes) (g .«node_count»))))
           ∙ ap₂ (ruledb (rulesOf g)) (sym lp) (sym lq) in
           (λ e. says .so (passes _ (sym test ∙ e)), λ r. test ∙ is-true _ (says .back r))

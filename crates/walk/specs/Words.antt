@@ -17,7 +17,6 @@ use Rattle.graph.specs.Ask.{AskedWithout}
 use Rattle.graph.specs.Fit.{Ruled, ruledb}
 use Rattle.graph.specs.Graph.{Graph, Sound, label, no-edge}
 use Rattle.graph.specs.Held.{Step}
-use Rattle.graph.specs.Limits.{most-nodes}
 use Rattle.walk.specs.declared.Words.{Words}
 
 -- q is in the word of p
@@ -35,10 +34,6 @@ abbrev pub AskedOf : Words → ℕ → ℕ → List ℕ → Type 0
 AskedOf words a b route = (g : Graph) (rules : List Rule) (c : List ℕ) → WordsOf g rules c words → AskedWithout g rules c a b route
 
 -- ---- what they are filled from
-
--- the ends of the first n edges are numbers of nodes
-abbrev pub Ends : List Edge → ℕ → Type 0
-Ends edges n = (i : ℕ) → i < n → (getD edges i no-edge .from < most-nodes) × (getD edges i no-edge .to < most-nodes)
 
 -- one of the first i edges leads from p to q
 abbrev pub Led : List Edge → ℕ → ℕ → ℕ → Type 0

@@ -19,8 +19,8 @@ ghost use Rattle.flags.specs.Flag.{flag};
 ghost use Rattle.graph.specs.Fit.{ruledb};
 ghost use Rattle.graph.specs.Graph.{Sound};
 ghost use Rattle.graph.specs.Limits.{most-nodes, most-edges, most-rules};
-ghost use Rattle.graph.specs.Value.{graphOf, rulesOf, Sized};
-ghost use Rattle.walk.specs.Words.{WordsOf, listed, Ends, Led, labelAt, fitIn};
+ghost use Rattle.graph.specs.Value.{graphOf, rulesOf, Sized, Ends};
+ghost use Rattle.walk.specs.Words.{WordsOf, listed, Led, labelAt, fitIn};
 
 // For each node the word of the nodes that an edge leads to.
 fn succ_words(edges: [Edge; Graph::EDGES], n: usize) -> [u64; Graph::NODES]

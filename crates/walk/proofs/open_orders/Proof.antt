@@ -5,7 +5,8 @@ use native.Mathlib.Omega.{arith}
 use lib.ListN.{length, length-set}
 use borrow.Author.Needs.{needs}
 use Rattle.graph.specs.Limits.{most-nodes, most-orders}
-use Rattle.walk.proofs.Judged.{Judged, judged-more, judged-told, order-ends}
+use Rattle.graph.proofs.Counted.{nodes-few, all-named}
+use Rattle.walk.proofs.Judged.{Judged, judged-more, judged-told}
 use Rattle.walk.proofs.open_orders.Statement.{statement}
 use Rattle.walk.proofs.open_orders.Tie as tie
 
@@ -36,7 +37,7 @@ cast-open-route-2 c = search needs
 open-route-requires : tie.Need-open-route-requires Inv-loop μ-loop
 open-route-requires c κs =
     let s = c .before .before .before .before .before .before .before in
-    order-ends (s .args .g) (s .pre .0) (s .pre .2) (c .before .before .before .before .loop .i) (c .before .before .before .loop-test .taken)
+    all-named (s .args .g) _ (nodes-few (s .args .g) (s .pre .0)) (s .pre .2) (c .before .before .before .before .loop .i) (c .before .before .before .loop-test .taken)
 
 array-write-open : tie.Need-array-write-open Inv-loop μ-loop
 array-write-open c = search needs

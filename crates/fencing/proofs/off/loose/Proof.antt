@@ -5,7 +5,7 @@ use mathlib.Core.Path.{_≡_, sym, _∙_, subst}
 use borrow.Author.Tests.{not-true, not-false}
 use Rattle.graph.specs.declared.Graph as Value
 use Rattle.graph.specs.Scan.{FirstFrom}
-use Rattle.fencing.proofs.Tops.{Ends, Starts, SomeEdge, SomeEnd, OneEach, none-empty, none-fence, fence-there, none-end, none-more, none-start, none-weight, none-new, loose-there}
+use Rattle.fencing.proofs.Tops.{EndsThere, StartsThere, SomeEdge, SomeEnd, OneEach, none-empty, none-fence, fence-there, none-end, none-more, none-start, none-weight, none-new, loose-there}
 use borrow.Author.Needs.{needs}
 use Rattle.fencing.proofs.off.loose.Statement.{statement}
 use Rattle.fencing.proofs.off.loose.Tie as tie
@@ -50,8 +50,8 @@ one-each c =
     let none : more .result ≡ g .«edge_count» = omega (arith, e4 .if4 .left, more .ensures .high) in
     record {
       some-end = some-end (scanned c);
-      no-more = subst (FirstFrom (Ends g) (found (scanned c) + 1) (g .«edge_count»)) none (more .ensures);
-      starts = subst (FirstFrom (Starts g) 0 (g .«edge_count»)) (e5 .if5 .left) (e5 .before .first-start .ensures);
+      no-more = subst (FirstFrom (EndsThere g) (found (scanned c) + 1) (g .«edge_count»)) none (more .ensures);
+      starts = subst (FirstFrom (StartsThere g) 0 (g .«edge_count»)) (e5 .if5 .left) (e5 .before .first-start .ensures);
     }
 
 -- src/off.rt:90:9

@@ -9,7 +9,7 @@ use borrow.Author.Needs.{needs}
 use Rattle.graph.specs.declared.Node.{Node}
 use Rattle.graph.specs.Fit.{ruledb}
 use Rattle.walk.specs.Words.{labelAt}
-use Rattle.walk.proofs.Counted.{getD-any}
+use Rattle.graph.proofs.Counted.{getD-any}
 use Rattle.walk.proofs.Fill.{Gathered, gathered-none, gathered-put, gathered-skip}
 use Rattle.walk.proofs.making.fits_word.Statement.{statement}
 use Rattle.walk.proofs.making.fits_word.Tie as tie

@@ -10,7 +10,7 @@ use Rattle.graph.specs.declared.Node.{Node}
 use Rattle.graph.specs.Fit.{ruledb}
 use Rattle.graph.specs.Limits.{most-nodes}
 use Rattle.walk.specs.Words.{labelAt}
-use Rattle.walk.proofs.Counted.{getD-any}
+use Rattle.graph.proofs.Counted.{getD-any}
 use Rattle.walk.proofs.Fill.{Rows, rows-none, rows-set}
 use Rattle.walk.proofs.making.fits_words.Statement.{statement}
 use Rattle.walk.proofs.making.fits_words.Tie as tie

@@ -1,6 +1,7 @@
 -- `walk::making::words_of` meets its contract: part by part.
 use borrow.Author.Needs.{needs}
-use Rattle.walk.proofs.Made.{all-ends, words-made}
+use Rattle.graph.proofs.Counted.{all-ends}
+use Rattle.walk.proofs.Made.{words-made}
 use Rattle.walk.proofs.making.words_of.Statement.{statement}
 use Rattle.walk.proofs.making.words_of.Tie as tie
 

@@ -6,9 +6,13 @@ use Prim.Native.Nat.{ℕ, zero, suc, _≤_, _<_, zero-le, suc-le-suc}
 use native.Mathlib.Nat.{le-of-suc-le-suc, not-suc-le-zero}
 use native.Mathlib.Omega.{arith}
 use lib.ListN.{length, take, getD, length-take}
-use Rattle.graph.proofs.Value.{labels-length}
+use lib.Dec.{lit<}
 use Rattle.graph.specs.declared.Node.{Node}
-use Rattle.graph.specs.Value.{labels}
+use Rattle.graph.specs.Graph.{Sound, Orderly, no-edge, no-order}
+use Rattle.graph.specs.Limits.{most-nodes}
+use Rattle.graph.specs.Value.{labels, graphOf, ordersOf, Sized, Ends, Named}
+use Rattle.graph.proofs.Value.{labels-length}
+use Rattle.graph.specs.declared.Graph as Value
 
 module _ {A : Type 0} where
   -- what stands at a place within a list does not go by the default
@@ -29,3 +33,15 @@ module _ {A : Type 0} where
 
 pub labels-few : (ns : List Node) (n : ℕ) → length (labels (take n ns)) ≤ n
 labels-few ns n = omega (arith, labels-length (take n ns), length-take n ns)
+
+module _ (g : Value.Graph) (sized : Sized g) where
+  pub nodes-few : length (graphOf g .nodes) ≤ most-nodes
+  nodes-few = omega (arith, labels-few (g .nodes) (g .«node_count»), sized .nodes)
+
+  pub all-ends : Sound (graphOf g) → Ends (g .edges) (g .«edge_count»)
+  all-ends sound = counted-each (λ e. (e .from < most-nodes) × (e .to < most-nodes)) no-edge (lit< tt, lit< tt) (g .«edge_count») (g .edges)
+      (λ i h. let s = sound .ends i h in (omega (arith, s .0, nodes-few), omega (arith, s .1, nodes-few)))
+
+pub all-named : (g : Value.Graph) (n : ℕ) → n ≤ most-nodes → Orderly n (ordersOf g) → Named (g .orders) (g .«order_count»)
+all-named g n few orderly = counted-each (λ o. (o .first < most-nodes) × (o .second < most-nodes)) no-order (lit< tt, lit< tt) (g .«order_count») (g .orders)
+    (λ i h. let s = orderly .ends i h in (omega (arith, s .0, few), omega (arith, s .1, few)))
