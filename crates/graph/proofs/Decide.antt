@@ -115,7 +115,7 @@ sound-so g t = record { ends = ends; pairs = λ i j hi hj f t₂. stable (says-e
     says-twin i j = says-and (says-eq _ _) (says-eq _ _)
 
     halves : ((i : ℕ) × (i < m) × (((edge g i) .from < length (g .nodes)) × ((edge g i) .to < length (g .nodes)) × (1 ≤ (edge g i) .weight) → ⊥) → ⊥) × ((i : ℕ) × (i < m) × ((j : ℕ) × (j < i) × (((edge g i) .from ≡ (edge g j) .from) × ((edge g i) .to ≡ (edge g j) .to))) → ⊥)
-    halves = says-and (says-not (says-below (λ i. says-not (says-ends i)) m)) (says-not (says-below (λ i. says-below (λ j. says-twin i j) i) m)) .so t
+    halves = says-and (says-not (says-below m (λ i h. says-not (says-ends i)))) (says-not (says-below m (λ i h. says-below i (λ j k. says-twin i j)))) .so t
 
     ends : (i : ℕ) → i < m → ((edge g i) .from < length (g .nodes)) × ((edge g i) .to < length (g .nodes)) × (1 ≤ (edge g i) .weight)
     ends i h = stable (says-ends i) (λ n. halves .0 (i, h, n))

@@ -26,7 +26,7 @@ module _ (g : Graph) (c : List ℕ) where
 
   pub says-step : (x y : ℕ) → Says (stepb x y) (Step g c x y)
   says-step x y = says-iff (λ (i, h, (o, (f, t))). (i, h, o, f, t)) (λ (i, h, o, f, t). (i, h, (o, (f, t))))
-      (says-below (λ i. says-and (says-absent i c) (says-and (says-eq ((edge g i) .from) x) (says-eq ((edge g i) .to) y))) (length (g .edges)))
+      (says-below (length (g .edges)) (λ i h. says-and (says-absent i c) (says-and (says-eq ((edge g i) .from) x) (says-eq ((edge g i) .to) y))))
 
   abbrev pub followsb : ℕ → List ℕ → ℕ → Bool
   followsb a [] b = stepb a b

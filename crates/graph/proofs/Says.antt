@@ -123,9 +123,9 @@ abbrev pub someBelow : ℕ → (ℕ → Bool) → Bool
 someBelow zero f = false
 someBelow (suc n) f = f n || someBelow n f
 
-pub says-below : {f : ℕ → Bool} {P : ℕ → Type 0} → ((i : ℕ) → Says (f i) (P i)) → (n : ℕ) → Says (someBelow n f) ((i : ℕ) × (i < n) × P i)
-says-below s zero = says-no (λ r. let h = r .1 in omega arith)
-says-below {f} {P} s (suc n) = says-iff to back (says-or (s n) (says-below s n))
+pub says-below : {f : ℕ → Bool} {P : ℕ → Type 0} (n : ℕ) → ((i : ℕ) → i < n → Says (f i) (P i)) → Says (someBelow n f) ((i : ℕ) × (i < n) × P i)
+says-below zero s = says-no (λ r. let h = r .1 in omega arith)
+says-below {f} {P} (suc n) s = says-iff to back (says-or (s n (omega arith)) (says-below n (λ i h. s i (omega arith))))
   where
     to : P n ⊎ ((i : ℕ) × (i < n) × P i) → (i : ℕ) × (i < suc n) × P i
     to (inl p) = (n, (omega arith), p)

@@ -57,7 +57,7 @@ module _ (w : Raw) (C : Clean w) where
 
   -- a rule that is not missing is there
   led : (a b : ℕ) → ((Leads (w .rules) a b → ⊥) → ⊥) → Leads (w .rules) a b
-  led a b n = stable (says-below (λ i. says-and (says-eq ((getD (w .rules) i no-rule) .left) a) (says-eq ((getD (w .rules) i no-rule) .right) b)) (length (w .rules))) n
+  led a b n = stable (says-below (length (w .rules)) (λ i h. says-and (says-eq ((getD (w .rules) i no-rule) .left) a) (says-eq ((getD (w .rules) i no-rule) .right) b))) n
 
   sound : Sound (understood w .graph)
   sound = record { ends = ends; pairs = pairs }

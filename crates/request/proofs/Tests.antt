@@ -1,11 +1,10 @@
 -- The reader's tests decide what document 01 calls bad.
 -- Assumes nothing.
-use mathlib.Core.Bool.{Bool}
+use mathlib.Core.Bool.{Bool, _||_}
 use mathlib.Core.List.{List}
-use mathlib.Core.Logic.{_≢_, _⊎_, inl, inr}
-use mathlib.Core.Path.{_≡_, subst}
+use mathlib.Core.Logic.{_≢_, _⊎_}
+use mathlib.Core.Path.{_≡_, refl, ap, subst⁻¹}
 use Prim.Native.Nat.{_*_, _+_, _<_, _≤_, suc, zero, ℕ}
-use native.Mathlib.Decide.{ℕ-discrete}
 use native.Mathlib.Omega.{arith}
 use lib.ListN.{getD}
 use Rattle.graph.specs.declared.Edge.{Edge}
@@ -16,24 +15,16 @@ use Rattle.request.specs.Bad.{Leads, WrongEdge, WrongNode, WrongOrder, W
 use Rattle.request.specs.Decode.{edgeAt, nodeAt, orderAt, ruleAt, table}
 use Rattle.request.specs.Pick.{any}
 use Rattle.request.specs.Tables.{badEdge, badLeft, badNode, badOrder, badRight, badRule, edgesAt, firstOf, fromOf, leads, ordersAt, repeated, ruleByte, rulesAt, samePair, secondOf, toOf, weightOf, word}
-use Rattle.graph.proofs.Says.{Says, says-and, says-eq, says-iff, says-le, says-lt, says-no, says-not, says-or}
+use Rattle.graph.proofs.Says.{Says, says-and, says-eq, says-le, says-lt, says-not, says-or, someBelow, says-below}
 use Rattle.request.proofs.Records.{edge-at, len-rules, node-at, order-at, rule-at}
 
-pub says-any : (f : ℕ → Bool) (P : ℕ → Type 0) (n : ℕ) → ((i : ℕ) → i < n → Says (f i) (P i)) → Says (any f n) ((i : ℕ) × (i < n) × P i)
+any-below : (f : ℕ → Bool) (n : ℕ) → any f n ≡ someBelow n f
 unfolding any
-says-any f P zero s = says-no (λ r. let h = r .1 in omega arith)
-says-any f P (suc n) s = says-iff to back (says-or (s n (omega arith)) (says-any f P n (λ i h. s i (omega arith))))
-  where
-    to : P n ⊎ ((i : ℕ) × (i < n) × P i) → (i : ℕ) × (i < suc n) × P i
-    to (inl p) = (n, omega arith, p)
-    to (inr (i, h, p)) = (i, omega arith, p)
+any-below f zero = refl
+any-below f (suc n) = ap (λ (b : Bool). f n || b) (any-below f n)
 
-    sort : (i : ℕ) → i < suc n → P i → Dec (i ≡ n) → P n ⊎ ((i : ℕ) × (i < n) × P i)
-    sort i h p (yes e) = inl (subst P e p)
-    sort i h p (no e) = inr (i, omega (arith, e), p)
-
-    back : (i : ℕ) × (i < suc n) × P i → P n ⊎ ((i : ℕ) × (i < n) × P i)
-    back (i, h, p) = sort i h p (ℕ-discrete i n)
+pub says-any : (f : ℕ → Bool) (P : ℕ → Type 0) (n : ℕ) → ((i : ℕ) → i < n → Says (f i) (P i)) → Says (any f n) ((i : ℕ) × (i < n) × P i)
+says-any f P n s = subst⁻¹ (λ (b : Bool). Says b ((i : ℕ) × (i < n) × P i)) (any-below f n) (says-below n s)
 
 module _ (s : List ℕ) (cs : Counts) where
   pub says-node : (i : ℕ) → i < cs .nodes → Says (badNode s i) (WrongNode (getD (table nodeAt 4 s 0 (cs .nodes)) i no-node))
