@@ -46,20 +46,31 @@ module _ (g : Graph) (e : ℕ) (fits : e < length (g .edges)) where
   pub fenced-count : length ((fenced g e) .edges) ≡ suc (length (g .edges))
   fenced-count = simp (length-append, length-set) (omega arith)
 
+  -- whatever the two edges are that come in the place of e and at the end
+  module _ (x y : Edge) where
+    other-kept : (i : ℕ) → i < length (g .edges) → i ≢ e → getD (set (g .edges) e x ++ (y ∷ [])) i no-edge ≡ getD (g .edges) i no-edge
+    other-kept i h d =
+        let h′ : i < length (set (g .edges) e x) = rw length-set h in
+        List·getD-append (set (g .edges) e x) (y ∷ []) no-edge i h′ ∙ getD-set-other (g .edges) e i x no-edge d
+
+    first-put : getD (set (g .edges) e x ++ (y ∷ [])) e no-edge ≡ x
+    first-put =
+        let h′ : e < length (set (g .edges) e x) = rw length-set fits in
+        List·getD-append (set (g .edges) e x) (y ∷ []) no-edge e h′ ∙ getD-set-same (g .edges) e x no-edge fits
+
+    second-put : getD (set (g .edges) e x ++ (y ∷ [])) (length (g .edges)) no-edge ≡ y
+    second-put =
+        subst (λ (k : ℕ). getD (set (g .edges) e x ++ (y ∷ [])) k no-edge ≡ y) (length-set (g .edges) e x)
+        (getD-append-seam (set (g .edges) e x) y [] no-edge)
+
   pub edge-other : (i : ℕ) → i < length (g .edges) → i ≢ e → edge (fenced g e) i ≡ edge g i
-  edge-other i h d =
-      let h′ : i < length (set (g .edges) e (into g e)) = rw length-set h in
-      List·getD-append (set (g .edges) e (into g e)) (out-of g e ∷ []) no-edge i h′ ∙ getD-set-other (g .edges) e i (into g e) no-edge d
+  edge-other i h d = other-kept _ _ i h d
 
   pub edge-same : edge (fenced g e) e ≡ into g e
-  edge-same =
-      let h′ : e < length (set (g .edges) e (into g e)) = rw length-set fits in
-      List·getD-append (set (g .edges) e (into g e)) (out-of g e ∷ []) no-edge e h′ ∙ getD-set-same (g .edges) e (into g e) no-edge fits
+  edge-same = first-put _ _
 
   pub edge-new : edge (fenced g e) (length (g .edges)) ≡ out-of g e
-  edge-new =
-      subst (λ (k : ℕ). getD ((fenced g e) .edges) k no-edge ≡ out-of g e) (length-set (g .edges) e (into g e))
-      (getD-append-seam (set (g .edges) e (into g e)) (out-of g e) [] no-edge)
+  edge-new = second-put _ _
 
   -- an edge of the fenced graph that does not touch the fence is an old one, and not e
   old-edge : (i : ℕ) → i < length ((fenced g e) .edges) → (edge (fenced g e) i) .from ≢ length (g .nodes) → (edge (fenced g e) i) .to ≢ length (g .nodes)
