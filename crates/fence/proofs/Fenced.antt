@@ -20,12 +20,12 @@ use Rattle.graph.specs.Limits.{most-edges, most-nodes}
 use Rattle.graph.specs.Value.{Roomy, Sized, graphOf, ordersOf, rising}
 use Rattle.graph.specs.Written.{written}
 use Rattle.request.specs.File.{bytes}
-use Rattle.request.specs.Write.{Written, requestIn, sizeOf}
+use Rattle.writing.specs.Write.{Written, requestIn, sizeOf}
 use Rattle.fence.proofs.Ran.{Crowded, run-accepted, run-crowded, run-short}
 use Rattle.fence.proofs.Reading.{kept-request, written-over}
 use Rattle.graph.proofs.Strip.{place}
 use Rattle.graph.proofs.Value.{edge-total, node-total}
-use Rattle.request.proofs.Writing.{bytes-size}
+use Rattle.writing.proofs.Writing.{bytes-size}
 use Rattle.graph.specs.declared.Graph as Value
 
 pub ready-orderly : (g : Value.Graph) → Ready g → Orderly (g .«node_count») (ordersOf g)

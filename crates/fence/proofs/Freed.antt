@@ -18,12 +18,12 @@ use Rattle.fencing.specs.Left.{off}
 use Rattle.graph.specs.Strip.{AllName, StripTo}
 use Rattle.graph.specs.Value.{Roomy, Sized, graphOf, ordersOf}
 use Rattle.request.specs.File.{bytes}
-use Rattle.request.specs.Write.{Written, requestIn, sizeOf}
+use Rattle.writing.specs.Write.{Written, requestIn, sizeOf}
 use Rattle.fence.proofs.Off.{strip-accepted, strip-short, strip-stuck}
 use Rattle.fence.proofs.Reading.{kept-request, written-over}
 use Rattle.graph.proofs.Strip.{place}
 use Rattle.graph.proofs.Value.{node-total}
-use Rattle.request.proofs.Writing.{bytes-size}
+use Rattle.writing.proofs.Writing.{bytes-size}
 use Rattle.graph.specs.declared.Graph as Value
 
 module _ (g : Value.Graph) (ready : Ready g) (c : ℕ) (o : List ℕ) where

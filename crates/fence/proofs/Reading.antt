@@ -21,7 +21,7 @@ use Rattle.request.specs.Decode.{Decoded, requestOf}
 use Rattle.request.specs.File.{Request, bytes}
 use Rattle.request.specs.Outcome.{Answered}
 use Rattle.request.specs.Proper.{Proper, countsOf}
-use Rattle.request.specs.Write.{Written, requestIn}
+use Rattle.writing.specs.Write.{Written, requestIn}
 use Rattle.request.proofs.Answered.{bytes-once, holds-clean, holds-only}
 use Rattle.graph.specs.declared.Graph as Value
 

@@ -18,7 +18,7 @@ use Rattle.graph.specs.Graph.{order, no-order}
 use Rattle.graph.specs.Limits.{most-nodes}
 use Rattle.graph.specs.Value.{graphOf, ordersOf, rulesOf}
 use Rattle.request.specs.Answers.{number}
-use Rattle.request.specs.Write.{requestIn}
+use Rattle.writing.specs.Write.{requestIn}
 use Rattle.walk.specs.Words.{AskedOf, WordsOf}
 use Rattle.fence.proofs.Showing.{ask-accepted, ask-number, ask-short}
 use Rattle.graph.proofs.Strip.{place}

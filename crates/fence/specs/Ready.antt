@@ -2,7 +2,7 @@
 -- Assumes nothing.
 use Rattle.graph.specs.Value.{Roomy, Sized}
 use Rattle.request.specs.Proper.{Proper}
-use Rattle.request.specs.Write.{requestIn}
+use Rattle.writing.specs.Write.{requestIn}
 use Rattle.graph.specs.declared.Graph as Value
 
 -- a proper request, within the limits, in arrays of full length

@@ -8,7 +8,7 @@ ghost use mathlib.Core.Path.{_≡_};
 ghost use Prim.Native.Nat.{ℕ, _≤_};
 ghost use lib.ListN.{length, take, drop};
 ghost use Rattle.graph.specs.Limits.{most-nodes};
-ghost use Rattle.request.specs.Write.{requestIn};
+ghost use Rattle.writing.specs.Write.{requestIn};
 ghost use Rattle.fence.specs.Outcome.{Reads, AskOutcome};
 ghost use Rattle.fence.specs.Ready.{Ready};
 

@@ -5,11 +5,11 @@ use fencing::off::names_above;
 use fencing::off::take_off;
 use graph::Graph;
 use request::Answer;
-use request::write::size_of;
-use request::write::write_request;
+use writing::size_of;
+use writing::write_request;
 ghost use mathlib.Core.List.{List};
 ghost use Prim.Native.Nat.{ℕ};
-ghost use Rattle.request.specs.Write.{requestIn};
+ghost use Rattle.writing.specs.Write.{requestIn};
 ghost use Rattle.fence.specs.Outcome.{Reads, StripOutcome};
 ghost use Rattle.fence.specs.Ready.{Ready};
 

@@ -27,4 +27,3 @@ pub mod Filled
 pub mod Given
 pub mod Computed
 pub mod Samples
-pub mod Writing

@@ -10,4 +10,3 @@ pub mod Pick
 pub mod Layout
 pub mod Tables
 pub mod Decode
-pub mod Write

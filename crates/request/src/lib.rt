@@ -2,10 +2,8 @@
 mod bad;
 mod checks;
 mod layout;
-mod put;
 mod values;
 mod words;
-pub mod write;
 
 use graph::Graph;
 ghost use mathlib.Core.Path.{_≡_};

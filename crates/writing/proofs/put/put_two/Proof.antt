@@ -1,11 +1,11 @@
--- `request::put::put_two` meets its contract: two bytes, the lower first.
+-- `writing::put::put_two` meets its contract: two bytes, the lower first.
 use mathlib.Core.Path.{refl}
 use native.Mathlib.Omega.{arith}
 use lib.ListN.{length-set}
-use Rattle.request.proofs.Writing.{written-two}
+use Rattle.writing.proofs.Writing.{written-two}
 use borrow.Author.Needs.{needs}
-use Rattle.request.proofs.put.put_two.Statement.{statement}
-use Rattle.request.proofs.put.put_two.Tie as tie
+use Rattle.writing.proofs.put.put_two.Statement.{statement}
+use Rattle.writing.proofs.put.put_two.Tie as tie
 
 -- src/put.rt:19:5
 slice-write-out : tie.Need-slice-write-out

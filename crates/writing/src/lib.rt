@@ -1,22 +1,24 @@
 // A whole request written: records of one mark after the other, then EN.
-use super::put::put_edge;
-use super::put::put_node;
-use super::put::put_order;
-use super::put::put_rule;
-use super::put::put_two;
+mod put;
+
 use graph::Edge;
 use graph::Graph;
 use graph::Node;
 use graph::Order;
 use graph::Rule;
+use put::put_edge;
+use put::put_node;
+use put::put_order;
+use put::put_rule;
+use put::put_two;
 ghost use mathlib.Core.Path.{_≡_};
 ghost use mathlib.Core.List.{flatMap};
 ghost use Prim.Native.Nat.{_+_, _*_, _<_, _≤_};
 ghost use lib.ListN.{length, take};
 ghost use Rattle.graph.specs.Limits.{most-nodes, most-edges, most-rules, most-orders};
 ghost use Rattle.graph.specs.Value.{labels, Sized};
 ghost use Rattle.request.specs.File.{node-bytes, edge-bytes, rule-bytes, order-bytes, bytes};
-ghost use Rattle.request.specs.Write.{Written, requestIn, sizeOf};
+ghost use Rattle.writing.specs.Write.{Written, requestIn, sizeOf};
 
 fn put_nodes(out: &mut [u8], nodes: [Node; Graph::NODES], n: usize) -> usize
     requires { ⌜ (n ≤ most-nodes) × (n * 4 ≤ length (now out)) ⌝ }

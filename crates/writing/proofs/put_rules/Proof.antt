@@ -1,10 +1,10 @@
--- `request::write::put_rules` meets its contract: record by record.
+-- `writing::put_rules` meets its contract: record by record.
 use Prim.Native.Nat.{_-_}
 use Rattle.request.specs.File.{rule-bytes}
-use Rattle.request.proofs.Writing.{Putting, putting-none, putting-more, putting-all}
+use Rattle.writing.proofs.Writing.{Putting, putting-none, putting-more, putting-all}
 use borrow.Author.Needs.{needs}
-use Rattle.request.proofs.write.put_rules.Statement.{statement}
-use Rattle.request.proofs.write.put_rules.Tie as tie
+use Rattle.writing.proofs.put_rules.Statement.{statement}
+use Rattle.writing.proofs.put_rules.Tie as tie
 
 abbrev Inv-loop : tie.InvT-loop
 Inv-loop out₀ at n rules p₀ i₀ out p i = Putting rule-bytes 6 at n rules out₀ out p i

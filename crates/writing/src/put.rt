@@ -8,8 +8,8 @@ ghost use mathlib.Core.Path.{_≡_};
 ghost use mathlib.Core.List.{[], _∷_};
 ghost use Prim.Native.Nat.{_+_, _≤_};
 ghost use lib.ListN.{length};
 ghost use Rattle.request.specs.File.{two, node-bytes, edge-bytes, side-bytes, rule-bytes, order-bytes};
-ghost use Rattle.request.specs.Write.{Written};
+ghost use Rattle.writing.specs.Write.{Written};
 
 pub fn put_two(out: &mut [u8], at: usize, a: u8, b: u8) -> usize
     requires { ⌜ at + 2 ≤ length (now out) ⌝ }

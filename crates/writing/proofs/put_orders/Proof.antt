@@ -1,10 +1,10 @@
--- `request::write::put_orders` meets its contract: record by record.
+-- `writing::put_orders` meets its contract: record by record.
 use Prim.Native.Nat.{_-_}
 use Rattle.request.specs.File.{order-bytes}
-use Rattle.request.proofs.Writing.{Putting, putting-none, putting-more, putting-all}
+use Rattle.writing.proofs.Writing.{Putting, putting-none, putting-more, putting-all}
 use borrow.Author.Needs.{needs}
-use Rattle.request.proofs.write.put_orders.Statement.{statement}
-use Rattle.request.proofs.write.put_orders.Tie as tie
+use Rattle.writing.proofs.put_orders.Statement.{statement}
+use Rattle.writing.proofs.put_orders.Tie as tie
 
 abbrev Inv-loop : tie.InvT-loop
 Inv-loop out₀ at n orders p₀ i₀ out p i = Putting order-bytes 6 at n orders out₀ out p i

@@ -1,9 +1,9 @@
--- `request::put::put_edge` meets its contract: the mark and the fields are the record's bytes.
+-- `writing::put::put_edge` meets its contract: the mark and the fields are the record's bytes.
 use native.Mathlib.Omega.{arith}
-use Rattle.request.proofs.Writing.{written-then}
+use Rattle.writing.proofs.Writing.{written-then}
 use borrow.Author.Needs.{needs}
-use Rattle.request.proofs.put.put_edge.Statement.{statement}
-use Rattle.request.proofs.put.put_edge.Tie as tie
+use Rattle.writing.proofs.put.put_edge.Statement.{statement}
+use Rattle.writing.proofs.put.put_edge.Tie as tie
 
 -- src/put.rt:51:9
 put-two-requires : tie.Need-put-two-requires

@@ -10,10 +10,10 @@ use lib.ListN.{drop, getD, length, length-append, length-drop, set, take, take-a
 use lib.Seq.{drop-append-add, drop-drop, length-take-le, sets-eq, take-at, take-suc}
 use Rattle.graph.specs.declared.Node.{Node}
 use Rattle.graph.specs.Value.{labels, ordersOf, rulesOf, Roomy, Sized}
 use Rattle.request.specs.File.{bytes, edge-bytes, node-bytes, order-bytes, rule-bytes}
-use Rattle.request.specs.Write.{Written, requestIn, sizeOf}
+use Rattle.writing.specs.Write.{Written, requestIn, sizeOf}
 use Rattle.graph.proofs.Value.{edge-total, node-total, order-total, rule-total}
 use Rattle.request.proofs.Answered.{bytes-length}
 use Rattle.graph.specs.declared.Graph as Value
 
 pub written-length : {o o′ : List ℕ} {at r : ℕ} {xs : List ℕ} → Written o o′ at r xs → length o′ ≡ length o

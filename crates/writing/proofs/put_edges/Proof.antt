@@ -1,10 +1,10 @@
--- `request::write::put_edges` meets its contract: record by record.
+-- `writing::put_edges` meets its contract: record by record.
 use Prim.Native.Nat.{_-_}
 use Rattle.request.specs.File.{edge-bytes}
-use Rattle.request.proofs.Writing.{Putting, putting-none, putting-more, putting-all}
+use Rattle.writing.proofs.Writing.{Putting, putting-none, putting-more, putting-all}
 use borrow.Author.Needs.{needs}
-use Rattle.request.proofs.write.put_edges.Statement.{statement}
-use Rattle.request.proofs.write.put_edges.Tie as tie
+use Rattle.writing.proofs.put_edges.Statement.{statement}
+use Rattle.writing.proofs.put_edges.Tie as tie
 
 abbrev Inv-loop : tie.InvT-loop
 Inv-loop out₀ at n edges p₀ i₀ out p i = Putting edge-bytes 8 at n edges out₀ out p i

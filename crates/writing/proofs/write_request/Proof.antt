@@ -1,9 +1,9 @@
--- `request::write::write_request` meets its contract: the parts one after the other are the file.
+-- `writing::write_request` meets its contract: the parts one after the other are the file.
 use native.Mathlib.Omega.{arith}
-use Rattle.request.proofs.Writing.{request-whole}
+use Rattle.writing.proofs.Writing.{request-whole}
 use borrow.Author.Needs.{needs}
-use Rattle.request.proofs.write.write_request.Statement.{statement}
-use Rattle.request.proofs.write.write_request.Tie as tie
+use Rattle.writing.proofs.write_request.Statement.{statement}
+use Rattle.writing.proofs.write_request.Tie as tie
 
 -- src/write.rt:89:9
 put-nodes-requires : tie.Need-put-nodes-requires

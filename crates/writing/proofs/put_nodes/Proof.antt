@@ -1,10 +1,10 @@
--- `request::write::put_nodes` meets its contract: record by record.
+-- `writing::put_nodes` meets its contract: record by record.
 use native.Mathlib.Omega.{arith}
 use Prim.Native.Nat.{_-_}
-use Rattle.request.proofs.Writing.{label-bytes, flat-labels, Putting, putting-none, putting-more, putting-all, written-as}
+use Rattle.writing.proofs.Writing.{label-bytes, flat-labels, Putting, putting-none, putting-more, putting-all, written-as}
 use borrow.Author.Needs.{needs}
-use Rattle.request.proofs.write.put_nodes.Statement.{statement}
-use Rattle.request.proofs.write.put_nodes.Tie as tie
+use Rattle.writing.proofs.put_nodes.Statement.{statement}
+use Rattle.writing.proofs.put_nodes.Tie as tie
 
 abbrev Inv-loop : tie.InvT-loop
 Inv-loop out₀ n nodes p₀ i₀ out p i = Putting label-bytes 4 0 n nodes out₀ out p i

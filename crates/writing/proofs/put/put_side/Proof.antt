@@ -1,12 +1,12 @@
--- `request::put::put_side` meets its contract: one case for each kind of side.
+-- `writing::put::put_side` meets its contract: one case for each kind of side.
 use mathlib.Core.Path.{ap, _∙_}
 use Rattle.graph.specs.declared.Label.{Label}
 use Rattle.graph.specs.declared.Side.the-variants.{Is}
 use Rattle.request.specs.File.{side-bytes}
-use Rattle.request.proofs.Writing.{written-as}
+use Rattle.writing.proofs.Writing.{written-as}
 use borrow.Author.Needs.{needs}
-use Rattle.request.proofs.put.put_side.Statement.{statement}
-use Rattle.request.proofs.put.put_side.Tie as tie
+use Rattle.writing.proofs.put.put_side.Statement.{statement}
+use Rattle.writing.proofs.put.put_side.Tie as tie
 
 -- src/put.rt:63:30
 enum-told : tie.Need-enum-told

@@ -1,9 +1,9 @@
--- `request::put::put_rule` meets its contract: the mark and the two sides are the record's bytes.
+-- `writing::put::put_rule` meets its contract: the mark and the two sides are the record's bytes.
 use native.Mathlib.Omega.{arith}
-use Rattle.request.proofs.Writing.{written-then}
+use Rattle.writing.proofs.Writing.{written-then}
 use borrow.Author.Needs.{needs}
-use Rattle.request.proofs.put.put_rule.Statement.{statement}
-use Rattle.request.proofs.put.put_rule.Tie as tie
+use Rattle.writing.proofs.put.put_rule.Statement.{statement}
+use Rattle.writing.proofs.put.put_rule.Tie as tie
 
 -- src/put.rt:79:9
 put-two-requires : tie.Need-put-two-requires

@@ -1,11 +1,11 @@
--- `request::put::put_node` meets its contract: one case for each kind of label.
+-- `writing::put::put_node` meets its contract: one case for each kind of label.
 use mathlib.Core.Path.{ap}
 use native.Mathlib.Omega.{arith}
 use Rattle.request.specs.File.{node-bytes}
-use Rattle.request.proofs.Writing.{written-then, written-as}
+use Rattle.writing.proofs.Writing.{written-then, written-as}
 use borrow.Author.Needs.{needs}
-use Rattle.request.proofs.put.put_node.Statement.{statement}
-use Rattle.request.proofs.put.put_node.Tie as tie
+use Rattle.writing.proofs.put.put_node.Statement.{statement}
+use Rattle.writing.proofs.put.put_node.Tie as tie
 
 -- src/put.rt:38:9
 put-two-requires : tie.Need-put-two-requires

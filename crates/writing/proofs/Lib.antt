@@ -1,0 +1,2 @@
+-- The mathematics of writing.
+pub mod Writing
