@@ -10,7 +10,7 @@ use Rattle.fence.specs.declared.Shown.{Shown}
 use Rattle.graph.specs.declared.Order.{Order}
 use Rattle.request.specs.declared.Answer.{Answer}
 use Rattle.request.specs.declared.Answer.the-variants.{NoSuchOrder, ShortBuffer}
-use Rattle.walk.specs.declared.Words.{Words}
+use Rattle.words.specs.declared.Words.{Words}
 use Rattle.fence.specs.Outcome.{AskOutcome, Reads}
 use Rattle.fence.specs.Ready.{Ready}
 use Rattle.graph.specs.Ask.{Asked}
@@ -19,7 +19,8 @@ use Rattle.graph.specs.Limits.{most-nodes}
 use Rattle.graph.specs.Value.{graphOf, ordersOf, rulesOf}
 use Rattle.request.specs.Answers.{number}
 use Rattle.writing.specs.Write.{requestIn}
-use Rattle.walk.specs.Words.{AskedOf, WordsOf}
+use Rattle.walk.specs.Asked.{AskedOf}
+use Rattle.words.specs.Words.{WordsOf}
 use Rattle.fence.proofs.Showing.{ask-accepted, ask-number, ask-short}
 use Rattle.graph.proofs.Strip.{place}
 use Rattle.graph.proofs.Value.{order-total}

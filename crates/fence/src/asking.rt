@@ -36,7 +36,7 @@ pub fn ask(g: Graph, order: u64, route: &mut [u16]) -> Shown
     if route.len() < Graph::NODES {
         return unshown(Answer::ShortBuffer, 0);
     }
-    let words = walk::making::words_of(g);
+    let words = words::words_of(g);
     let o = g.orders[order as usize];
     let way = walk::open_route(words, o.first as usize, o.second as usize);
     let nodes = way.nodes;

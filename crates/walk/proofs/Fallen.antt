@@ -14,7 +14,7 @@ use Rattle.flags.proofs.Digit.{true-false, flag-zero}
 use Rattle.flags.proofs.Pair.{both-true}
 use Rattle.flags.proofs.Put.{put-same, put-cases, put-keeps}
 use Rattle.walk.specs.Search.{Lowered}
-use Rattle.walk.specs.Words.{listed}
+use Rattle.words.specs.Words.{listed}
 use Rattle.walk.proofs.Rest.{unset}
 
 pub lowered-none : (l : List ℕ) (m : ℕ) → Lowered l l 0 m 0

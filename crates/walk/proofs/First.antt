@@ -15,9 +15,9 @@ use Rattle.graph.specs.Held.{Follows, Ordered, by-rule, by-way, Orders, Route, 
 use Rattle.graph.specs.Limits.{most-nodes}
 use Rattle.graph.proofs.Walked.{apart-cons, apart-uncons, apart-nil, each-split}
 use Rattle.walk.specs.declared.Way.{Way}
-use Rattle.walk.specs.declared.Words.{Words}
+use Rattle.words.specs.declared.Words.{Words}
 use Rattle.walk.specs.Search.{Next, Answer, none, found, Earliest}
-use Rattle.walk.specs.Words.{WordsOf}
+use Rattle.words.specs.Words.{WordsOf}
 use Rattle.walk.proofs.Carried.{Lists, carried-start}
 use Rattle.walk.proofs.Completeness.{found-or-ordered}
 use Rattle.walk.proofs.Soundness.{Onward, found-onward}

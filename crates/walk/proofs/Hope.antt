@@ -10,7 +10,7 @@ use Rattle.flags.specs.Flag.{flag, put}
 use Rattle.flags.proofs.Digit.{flag-zero, true-false}
 use Rattle.flags.proofs.Put.{put-cases, put-keeps}
 use Rattle.walk.specs.Search.{Rest, ends, goes, Next, Into, Inside, mark}
-use Rattle.walk.specs.Words.{listed}
+use Rattle.words.specs.Words.{listed}
 use Rattle.walk.proofs.Rest.{unset, mark-grown, rest-new, rest-open, rest-live}
 
 -- ---- the nodes that some rule fits with the goal

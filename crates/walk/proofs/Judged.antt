@@ -20,8 +20,9 @@ use Rattle.graph.specs.Graph as Drawn
 use Rattle.graph.specs.Held.{Held, HeldWithout, Open}
 use Rattle.graph.specs.Value.{graphOf, rulesOf, ordersOf, Sized, Told}
 use Rattle.walk.specs.declared.Way.{Way}
-use Rattle.walk.specs.declared.Words.{Words}
-use Rattle.walk.specs.Words.{AskedOf, WordsOf}
+use Rattle.words.specs.declared.Words.{Words}
+use Rattle.walk.specs.Asked.{AskedOf}
+use Rattle.words.specs.Words.{WordsOf}
 use Rattle.graph.proofs.Value.{order-at}
 use Rattle.graph.proofs.Counted.{counted-below}
 

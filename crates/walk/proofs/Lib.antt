@@ -1,7 +1,5 @@
--- The mathematics of the walk: the words of a graph; the search, step by step; the search and the routes of a graph.
+-- The mathematics of the walk: the search, step by step; the search and the routes of a graph.
 
-pub mod Fill
-pub mod Made
 pub mod Rest
 pub mod Left
 pub mod Visited

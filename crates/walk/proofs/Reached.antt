@@ -14,7 +14,7 @@ use Rattle.flags.proofs.Pair.{either-l, either-r, either-cases, both-true, less
 use Rattle.flags.proofs.Put.{put-other}
 use Rattle.graph.specs.Limits.{most-nodes}
 use Rattle.walk.specs.Search.{Lowered, Next, Into, mark}
-use Rattle.walk.specs.Words.{listed}
+use Rattle.words.specs.Words.{listed}
 use Rattle.walk.proofs.Hope.{Below, no-next}
 use Rattle.walk.proofs.Rest.{unset, mark-keeps}
 

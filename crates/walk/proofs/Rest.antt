@@ -11,7 +11,7 @@ use Rattle.flags.proofs.Digit.{true-false}
 use Rattle.flags.proofs.Pair.{either-l, either-r, either-cases}
 use Rattle.graph.specs.Cut.{First}
 use Rattle.walk.specs.Search.{Rest, ends, goes, mark, pick}
-use Rattle.walk.specs.Words.{listed}
+use Rattle.words.specs.Words.{listed}
 
 pub unset : {b : Bool} → (b ≡ true → ⊥) → b ≡ false
 unset {b = true} n = absurd (n refl)

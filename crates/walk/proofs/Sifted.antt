@@ -14,7 +14,7 @@ use Rattle.flags.proofs.Digit.{true-false}
 use Rattle.flags.proofs.Put.{put-cases, put-keeps}
 use Rattle.graph.specs.Limits.{most-nodes}
 use Rattle.walk.specs.Search.{Rest, ends, goes, Next, Inside, Known, most-pairs, mark}
-use Rattle.walk.specs.Words.{listed}
+use Rattle.words.specs.Words.{listed}
 use Rattle.walk.proofs.Rest.{unset, mark-grown, mark-same, rest-open}
 
 -- a way that goes on to y, w being ordered after the first then: it orders the goal, or a pair is known that it is no better than

@@ -14,7 +14,7 @@ use Rattle.flags.proofs.Put.{put-cases, put-keeps}
 use Rattle.graph.specs.Cut.{First}
 use Rattle.walk.specs.declared.Way.{Way}
 use Rattle.walk.specs.Search.{Rest, Next, Answer, none, found}
-use Rattle.walk.specs.Words.{listed}
+use Rattle.words.specs.Words.{listed}
 use Rattle.walk.proofs.Left.{Lowest}
 use Rattle.walk.proofs.Rest.{unset, rest-new, rest-first}
 

@@ -12,8 +12,9 @@ use Rattle.graph.specs.Graph as Drawn
 use Rattle.graph.specs.Value.{ordersOf, Told}
 use Rattle.graph.proofs.Unique.{asked-unique}
 use Rattle.walk.specs.declared.Way.{Way}
-use Rattle.walk.specs.declared.Words.{Words}
-use Rattle.walk.specs.Words.{AskedOf, WordsOf}
+use Rattle.words.specs.declared.Words.{Words}
+use Rattle.walk.specs.Asked.{AskedOf}
+use Rattle.words.specs.Words.{WordsOf}
 
 pub route-unique : {g : Drawn.Graph} {rules : List Rule} {c : List ℕ} (words : Words) → WordsOf g rules c words → (a b : ℕ) (v w : Way)
     → v .len ≤ length (v .nodes)

@@ -1,3 +1,3 @@
--- The definitions that this crate's contracts cite. Words: which words are a graph's. Search: what the walk looks for at a node.
-pub mod Words
+-- The definitions that this crate's contracts cite. Asked: what it shows of an order. Search: what it looks for at a node.
+pub mod Asked
 pub mod Search

@@ -9,7 +9,7 @@ use Rattle.flags.specs.Flag.{flag, put, either}
 use Rattle.graph.specs.Cut.{First}
 use Rattle.graph.specs.Limits.{most-nodes}
 use Rattle.walk.specs.declared.Way.{Way}
-use Rattle.walk.specs.Words.{listed}
+use Rattle.words.specs.Words.{listed}
 
 -- the first if so, else the second
 abbrev pub pick : Bool → ℕ → ℕ → ℕ

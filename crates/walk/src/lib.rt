@@ -1,6 +1,5 @@
 // The walk along the routes of a graph, for the first one that does not order its ends.
 mod hoping;
-pub mod making;
 mod pairs;
 
 use flags::either;
@@ -13,8 +12,9 @@ use flags::word;
 use graph::Graph;
 use hoping::hopeful;
 use hoping::into_word;
-use making::words_of;
 use pairs::lost;
+use words::Words;
+use words::words_of;
 ghost use mathlib.Core.Path.{_≡_};
 ghost use mathlib.Core.Bool.{false};
 ghost use Prim.Native.Nat.{_<_, _≤_};
@@ -24,14 +24,8 @@ ghost use Rattle.flags.specs.Flag.{flag};
 ghost use Rattle.graph.specs.Graph.{Sound, Orderly};
 ghost use Rattle.graph.specs.Limits.{most-nodes};
 ghost use Rattle.graph.specs.Value.{graphOf, ordersOf, Sized, Told};
-ghost use Rattle.walk.specs.Words.{AskedOf};
+ghost use Rattle.walk.specs.Asked.{AskedOf};
 ghost use Rattle.walk.specs.Search.{Rest, Next, Answer, Into, mark};
-
-// A word for each node p: the nodes that an edge leads to from p, and the nodes that some rule fits with p.
-pub struct Words {
-    pub succ: [u64; Graph::NODES],
-    pub fits: [u64; Graph::NODES],
-}
 
 // A route: the first len entries of nodes. Where there is none len is 0.
 pub struct Way {

@@ -6,7 +6,7 @@ use borrow.Author.Needs.{needs}
 use Rattle.flags.specs.Flag.{flag}
 use Rattle.graph.specs.Limits.{most-nodes}
 use Rattle.walk.specs.Search.{Into}
-use Rattle.walk.specs.Words.{listed}
+use Rattle.words.specs.Words.{listed}
 use Rattle.walk.proofs.Hope.{into-none, into-put}
 use Rattle.walk.proofs.hoping.into_word.Statement.{statement}
 use Rattle.walk.proofs.hoping.into_word.Tie as tie

@@ -1,4 +1,4 @@
--- `walk::making::succ_words` meets its contract: edge by edge.
+-- `words::succ_words` meets its contract: edge by edge.
 use mathlib.Core.Path.{_≡_, refl, _∙_}
 use Prim.Native.Nat.{_-_, _≤_, _<_}
 use native.Mathlib.Omega.{arith}
@@ -6,9 +6,9 @@ use lib.ListN.{length, getD, length-set}
 use borrow.Author.Needs.{needs}
 use Rattle.graph.specs.Graph.{no-edge}
 use Rattle.graph.specs.Limits.{most-nodes}
-use Rattle.walk.proofs.Fill.{Filled, filled-none, filled-put}
-use Rattle.walk.proofs.making.succ_words.Statement.{statement}
-use Rattle.walk.proofs.making.succ_words.Tie as tie
+use Rattle.words.proofs.Fill.{Filled, filled-none, filled-put}
+use Rattle.words.proofs.succ_words.Statement.{statement}
+use Rattle.words.proofs.succ_words.Tie as tie
 
 abbrev Inv-loop : tie.InvT-loop
 Inv-loop n edges words₀ i₀ words i = (i ≤ n) × (length words ≡ most-nodes) × Filled edges i words

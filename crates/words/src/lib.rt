@@ -1,7 +1,5 @@
 // The words of a graph, that the walk goes by.
-use super::Words;
 use flags::with;
-use flags::word;
 use graph::Edge;
 use graph::Graph;
 use graph::Label;
@@ -20,7 +18,13 @@ ghost use Rattle.graph.specs.Fit.{ruledb};
 ghost use Rattle.graph.specs.Graph.{Sound};
 ghost use Rattle.graph.specs.Limits.{most-nodes, most-edges, most-rules};
 ghost use Rattle.graph.specs.Value.{graphOf, rulesOf, Sized, Ends};
-ghost use Rattle.walk.specs.Words.{WordsOf, listed, Led, labelAt, fitIn};
+ghost use Rattle.words.specs.Words.{WordsOf, listed, Led, labelAt, fitIn};
+
+// A word for each node p: the nodes that an edge leads to from p, and the nodes that some rule fits with p.
+pub struct Words {
+    pub succ: [u64; Graph::NODES],
+    pub fits: [u64; Graph::NODES],
+}
 
 // For each node the word of the nodes that an edge leads to.
 fn succ_words(edges: [Edge; Graph::EDGES], n: usize) -> [u64; Graph::NODES]

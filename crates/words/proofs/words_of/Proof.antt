@@ -1,9 +1,9 @@
--- `walk::making::words_of` meets its contract: part by part.
+-- `words::words_of` meets its contract: part by part.
 use borrow.Author.Needs.{needs}
 use Rattle.graph.proofs.Counted.{all-ends}
-use Rattle.walk.proofs.Made.{words-made}
-use Rattle.walk.proofs.making.words_of.Statement.{statement}
-use Rattle.walk.proofs.making.words_of.Tie as tie
+use Rattle.words.proofs.Made.{words-made}
+use Rattle.words.proofs.words_of.Statement.{statement}
+use Rattle.words.proofs.words_of.Tie as tie
 
 succ-words-requires : tie.Need-succ-words-requires
 succ-words-requires c κs =

@@ -20,8 +20,8 @@ use Rattle.graph.specs.Graph.{Sound, label}
 use Rattle.graph.specs.Held.{Step}
 use Rattle.graph.specs.Value.{labels, graphOf, rulesOf, Sized}
 use Rattle.graph.proofs.Ruled.{says-ruled}
-use Rattle.walk.specs.declared.Words.{Words}
-use Rattle.walk.specs.Words.{WordsOf, listed, Led, labelAt, fitIn}
+use Rattle.words.specs.declared.Words.{Words}
+use Rattle.words.specs.Words.{WordsOf, listed, Led, labelAt, fitIn}
 use Rattle.graph.proofs.Counted.{counted-below, labels-few}
 
 label-take : (ns : List Node) (n p : ℕ) → p < length (labels (take n ns)) → getD (labels (take n ns)) p Fence ≡ labelAt ns p

@@ -1,4 +1,4 @@
--- `walk::making::fits_word` meets its contract: node by node.
+-- `words::fits_word` meets its contract: node by node.
 use mathlib.Core.Bool.{Bool}
 use mathlib.Core.Logic.{⊎-elim}
 use mathlib.Core.Path.{_≡_, sym, ap, _∙_}
@@ -8,11 +8,11 @@ use lib.ListN.{take}
 use borrow.Author.Needs.{needs}
 use Rattle.graph.specs.declared.Node.{Node}
 use Rattle.graph.specs.Fit.{ruledb}
-use Rattle.walk.specs.Words.{labelAt}
+use Rattle.words.specs.Words.{labelAt}
 use Rattle.graph.proofs.Counted.{getD-any}
-use Rattle.walk.proofs.Fill.{Gathered, gathered-none, gathered-put, gathered-skip}
-use Rattle.walk.proofs.making.fits_word.Statement.{statement}
-use Rattle.walk.proofs.making.fits_word.Tie as tie
+use Rattle.words.proofs.Fill.{Gathered, gathered-none, gathered-put, gathered-skip}
+use Rattle.words.proofs.fits_word.Statement.{statement}
+use Rattle.words.proofs.fits_word.Tie as tie
 
 abbrev Inv-loop : tie.InvT-loop
 Inv-loop n rules m l nodes word₀ p₀ word p = (p ≤ n) × Gathered (λ k. ruledb (take m rules) l (labelAt nodes k)) p word

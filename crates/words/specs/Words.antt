@@ -13,11 +13,10 @@ use Rattle.graph.specs.declared.Label.{Label}
 use Rattle.graph.specs.declared.Label.the-variants.{Fence}
 use Rattle.graph.specs.declared.Node.{Node}
 use Rattle.graph.specs.declared.Rule.{Rule}
-use Rattle.graph.specs.Ask.{AskedWithout}
 use Rattle.graph.specs.Fit.{Ruled, ruledb}
 use Rattle.graph.specs.Graph.{Graph, Sound, label, no-edge}
 use Rattle.graph.specs.Held.{Step}
-use Rattle.walk.specs.declared.Words.{Words}
+use Rattle.words.specs.declared.Words.{Words}
 
 -- q is in the word of p
 abbrev pub listed : List ℕ → ℕ → ℕ → Bool
@@ -28,10 +27,6 @@ pub record WordsOf (g : Graph) (rules : List Rule) (c : List ℕ) (words : Words
   pub sound : Sound g
   pub steps : (p q : ℕ) → (listed (words .succ) p q ≡ true) ↔ Step g c p q
   pub ruled : (p q : ℕ) → p < length (g .nodes) → q < length (g .nodes) → (listed (words .fits) p q ≡ true) ↔ Ruled rules (label g p) (label g q)
-
--- what is shown of the order (a, b), whatever graph these words are of
-abbrev pub AskedOf : Words → ℕ → ℕ → List ℕ → Type 0
-AskedOf words a b route = (g : Graph) (rules : List Rule) (c : List ℕ) → WordsOf g rules c words → AskedWithout g rules c a b route
 
 -- ---- what they are filled from
 

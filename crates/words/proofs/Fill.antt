@@ -17,7 +17,7 @@ use Rattle.flags.proofs.Put.{put-same, put-other, put-cases, put-keeps}
 use Rattle.graph.specs.declared.Edge.{Edge}
 use Rattle.graph.specs.Graph.{no-edge}
 use Rattle.graph.specs.Limits.{most-nodes}
-use Rattle.walk.specs.Words.{Led, listed}
+use Rattle.words.specs.Words.{Led, listed}
 
 ltb-same : (k i : ℕ) → (k ≡ i → ⊥) → ltb k (i + 1) ≡ ltb k i
 ltb-same k i n = go (decLt k i)

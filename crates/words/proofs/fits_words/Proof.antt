@@ -1,4 +1,4 @@
--- `walk::making::fits_words` meets its contract: node by node.
+-- `words::fits_words` meets its contract: node by node.
 use mathlib.Core.Bool.{Bool, _&&_}
 use mathlib.Core.Path.{_≡_, refl, ap, _∙_}
 use Prim.Native.Nat.{ℕ, _-_, _≤_}
@@ -9,11 +9,11 @@ use borrow.Author.Needs.{needs}
 use Rattle.graph.specs.declared.Node.{Node}
 use Rattle.graph.specs.Fit.{ruledb}
 use Rattle.graph.specs.Limits.{most-nodes}
-use Rattle.walk.specs.Words.{labelAt}
+use Rattle.words.specs.Words.{labelAt}
 use Rattle.graph.proofs.Counted.{getD-any}
-use Rattle.walk.proofs.Fill.{Rows, rows-none, rows-set}
-use Rattle.walk.proofs.making.fits_words.Statement.{statement}
-use Rattle.walk.proofs.making.fits_words.Tie as tie
+use Rattle.words.proofs.Fill.{Rows, rows-none, rows-set}
+use Rattle.words.proofs.fits_words.Statement.{statement}
+use Rattle.words.proofs.fits_words.Tie as tie
 
 abbrev Inv-loop : tie.InvT-loop
 Inv-loop n rules m nodes words₀ i₀ words i =

@@ -1,0 +1,2 @@
+-- The definitions that this crate's contracts cite: which words are a graph's.
+pub mod Words
