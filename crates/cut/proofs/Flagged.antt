@@ -7,13 +7,13 @@ use Prim.Native.Nat.{ℕ, zero, suc, _+_, _<_, _≤_}
 use native.Mathlib.Decide.{ℕ-discrete}
 use native.Mathlib.Omega.{arith}
 use lib.ListN.{length, getD}
-use Rattle.cut.specs.Sets.{Has, Edges, Least, weigh}
+use Rattle.lightest.specs.Sets.{Has, Edges, Least, weigh}
 use Rattle.graph.specs.Cut.{Rising, First, Best, total}
 use Rattle.graph.specs.Held.{Absent}
 use Rattle.graph.specs.Limits.{most-edges}
 use Rattle.graph.specs.Value.{rising}
 use Rattle.route.specs.Way.{Out}
-use Rattle.cut.proofs.Facts.{t≢f, f≢t}
+use Rattle.lightest.proofs.Facts.{t≢f, f≢t}
 
 -- ---- from flags to a list. The first flag is that of edge n
 

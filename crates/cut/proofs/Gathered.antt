@@ -13,12 +13,12 @@ use borrow.Author.Count.{below-more}
 use Rattle.cut.specs.declared.near.Pairs.{Pairs}
 use Rattle.graph.specs.declared.Order.{Order}
 use Rattle.cut.specs.Given.{EndsOf, Gathered, swapped, Keeps}
-use Rattle.cut.specs.Sets.{Has}
+use Rattle.lightest.specs.Sets.{Has}
 use Rattle.graph.specs.Graph.{order}
 use Rattle.graph.specs.Limits.{most-orders}
 use Rattle.route.specs.Way.{Out}
 use Rattle.cut.proofs.Drawn.{set-old}
-use Rattle.cut.proofs.Facts.{true-false}
+use Rattle.lightest.proofs.Facts.{true-false}
 use Rattle.route.proofs.Ways.{at-same}
 
 -- ---- order by order

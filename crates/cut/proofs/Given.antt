@@ -8,20 +8,20 @@ use Prim.Native.Nat.{ℕ, _<_, _≤_}
 use native.Mathlib.Omega.{arith}
 use lib.ListN.{length, getD}
 use lib.Seq.{length-take-le}
-use Rattle.cut.specs.declared.Cut.{Cut}
+use Rattle.lightest.specs.declared.Cut.{Cut}
 use Rattle.graph.specs.declared.Order.{Order}
-use Rattle.cut.specs.Apart.{Apart, Known}
+use Rattle.lightest.specs.Apart.{Apart, Known}
 use Rattle.cut.specs.Chosen.{Chosen}
 use Rattle.cut.specs.Given.{Copied, Differ, Gathered}
-use Rattle.cut.specs.Made.{Made}
-use Rattle.cut.specs.Sets.{Least}
+use Rattle.lightest.specs.Made.{Made}
+use Rattle.lightest.specs.Sets.{Least}
 use Rattle.graph.specs.Graph.{Sound, Orderly, order, no-order}
 use Rattle.graph.specs.Held.{Held, Open}
 use Rattle.graph.specs.Limits.{most-edges, most-orders}
 use Rattle.graph.specs.Value.{graphOf, rulesOf, ordersOf, Sized, Told}
 use Rattle.route.specs.Way.{Linked, Net}
 use Rattle.cut.proofs.Drawn.{Drawn, lent, lent-long, lent-at, copied-drawn, drawn-net}
-use Rattle.cut.proofs.Facts.{bool}
+use Rattle.lightest.proofs.Facts.{bool}
 use Rattle.cut.proofs.Separated.{Asks, chosen-of, weight-of}
 use Rattle.graph.proofs.Counted.{nodes-few}
 use Rattle.graph.proofs.Value.{order-at}

@@ -1,14 +1,4 @@
--- The mathematics of the search for the chosen cut.
-pub mod Facts
-pub mod Diff
-pub mod Weights
-pub mod Fore
-pub mod Grown
-pub mod Residues
-pub mod Filled
-pub mod Tried
-pub mod Listed
-pub mod Whole
+-- A graph and its open orders as the search reads them, and its result as the chosen cut.
 pub mod Flagged
 pub mod Simple
 pub mod Drawn

@@ -11,8 +11,8 @@ use lib.ListN.{length, getD, List·getD-eq-default}
 use Rattle.graph.specs.declared.Edge.{Edge}
 use Rattle.graph.specs.declared.Order.{Order}
 use Rattle.graph.specs.declared.Rule.{Rule}
-use Rattle.cut.specs.Apart.{Apart}
-use Rattle.cut.specs.Sets.{weigh, Edges, Least}
+use Rattle.lightest.specs.Apart.{Apart}
+use Rattle.lightest.specs.Sets.{weigh, Edges, Least}
 use Rattle.graph.specs.Cut.{Rising, Separates, ChosenCut, weight}
 use Rattle.graph.specs.Graph.{Graph, Sound, edge, no-edge}
 use Rattle.graph.specs.Held.{Step, Follows, Open}
@@ -20,7 +20,7 @@ use Rattle.graph.specs.Limits.{most-edges}
 use Rattle.graph.specs.Value.{rising}
 use Rattle.route.specs.Way.{Way, Out}
 use Rattle.cut.proofs.Drawn.{Drawn}
-use Rattle.cut.proofs.Facts.{lt-or-ge}
+use Rattle.lightest.proofs.Facts.{lt-or-ge}
 use Rattle.cut.proofs.Flagged.{rising-rising, out-absent, absent-out, total-same, least-best}
 use Rattle.cut.proofs.Simple.{shorten}
 use Rattle.graph.specs.Cut as cut

@@ -3,9 +3,9 @@
 use mathlib.Core.Path.{_≡_}
 use Prim.Native.Nat.{ℕ, _<_}
 use lib.ListN.{length}
-use Rattle.cut.specs.declared.Cut.{Cut}
-use Rattle.cut.specs.Made.{most-weight}
-use Rattle.cut.specs.Sets.{Has}
+use Rattle.lightest.specs.declared.Cut.{Cut}
+use Rattle.lightest.specs.Made.{most-weight}
+use Rattle.lightest.specs.Sets.{Has}
 use Rattle.graph.specs.Cut.{ChosenCut, weight}
 use Rattle.graph.specs.Limits.{most-edges}
 use Rattle.graph.specs.Value.{graphOf, rulesOf, ordersOf, rising}

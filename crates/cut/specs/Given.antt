@@ -9,7 +9,7 @@ use lib.ListN.{length, getD, set}
 use Rattle.cut.specs.declared.near.Pairs.{Pairs}
 use Rattle.graph.specs.declared.Edge.{Edge}
 use Rattle.graph.specs.declared.Order.{Order}
-use Rattle.cut.specs.Sets.{Has}
+use Rattle.lightest.specs.Sets.{Has}
 use Rattle.graph.specs.Graph.{no-edge, order}
 use Rattle.graph.specs.Limits.{most-nodes, most-edges, most-orders}
 

@@ -1,7 +1,3 @@
--- What the search for the chosen cut says of sets of edges, and of its results.
-pub mod Sets
-pub mod Made
-pub mod Apart
-pub mod Search
+-- What the search is given of a graph, and what the chosen cut is.
 pub mod Given
 pub mod Chosen

@@ -13,7 +13,7 @@ use Rattle.cut.specs.Chosen.{Chosen}
 use Rattle.fence.specs.Outcome.{Reads, RunOutcome, fencedFile, over, refusal}
 use Rattle.fence.specs.Ready.{Ready}
 use Rattle.fencing.specs.Kept.{Kept}
-use Rattle.cut.specs.declared.Cut.{Cut}
+use Rattle.lightest.specs.declared.Cut.{Cut}
 use Rattle.graph.specs.Cut.{weight}
 use Rattle.graph.specs.Graph.{Orderly}
 use Rattle.graph.specs.Limits.{most-edges, most-nodes}

@@ -1,0 +1,131 @@
+-- The packing, route by route: what the oracle's answer adds to the bound.
+-- Assumes nothing.
+use mathlib.Core.Bool.{Bool, true, false}
+use mathlib.Core.List.{List, [], _∷_}
+use mathlib.Core.Logic.{_⊎_, inl, inr, ⊎-elim}
+use mathlib.Core.Path.{_≡_, sym, ap, _∙_, subst, subst⁻¹}
+use Prim.Native.Nat.{ℕ, zero, suc, _+_, _<_, _≤_}
+use native.Mathlib.Decide.{ℕ-discrete}
+use native.Mathlib.Omega.{arith}
+use lib.ListN.{length, getD}
+use borrow.Author.Count.{below-more}
+use Rattle.lightest.specs.declared.Cut.{Cut}
+use Rattle.route.specs.declared.Route.{Route}
+use Rattle.lightest.specs.Apart.{Apart, Known}
+use Rattle.lightest.specs.Made.{Made}
+use Rattle.lightest.specs.Search.{Branch, Fair, Next, Unspent, Smallest, Reduced, Packed, Bounded}
+use Rattle.lightest.specs.Sets.{Has, weigh}
+use Rattle.graph.specs.Limits.{most-edges}
+use Rattle.route.specs.Way.{Way, Out, Remains, Parts, Found}
+use Rattle.lightest.proofs.Facts.{bool, lt-or-ge}
+use Rattle.lightest.proofs.Weights.{total-less, total-unspent}
+use Rattle.route.proofs.Ways.{at-same}
+
+find-below : (p : ℕ → Bool) (n : ℕ) → ((k : ℕ) × (k < n) × (p k ≡ true)) ⊎ ((k : ℕ) → k < n → p k ≡ false)
+find-below p zero = inr (λ k h. absurd (omega arith))
+find-below p (suc n) = go (find-below p n) (bool (p n))
+  where
+    last : ((k : ℕ) → k < n → p k ≡ false) → p n ≡ false → (k : ℕ) → k < suc n → p k ≡ false
+    last f e k h = here (ℕ-discrete k n)
+      where
+        here : Dec (k ≡ n) → p k ≡ false
+        here (yes q) = ap p q ∙ e
+        here (no q) = f k (omega (arith, q))
+
+    go : ((k : ℕ) × (k < n) × (p k ≡ true)) ⊎ ((k : ℕ) → k < n → p k ≡ false) → (p n ≡ true) ⊎ (p n ≡ false) → ((k : ℕ) × (k < suc n) × (p k ≡ true)) ⊎ ((k : ℕ) → k < suc n → p k ≡ false)
+    go (inl q) b = inl (q .0, omega (arith, q .1), q .2)
+    go (inr f) (inl e) = inl (n, omega arith, e)
+    go (inr f) (inr e) = inr (last f e)
+
+way-map : (from to : List ℕ) (A B : ℕ → Type 0) → ((e : ℕ) → e < length from → A e → B e) → (a : ℕ) (es : List ℕ) (b : ℕ) → Way from to A a es b → Way from to B a es b
+way-map from to A B f a [] b w = w
+way-map from to A B f a (e ∷ es) b w = (w .0, w .1, f e (w .0) (w .2), way-map from to A B f (getD to e 0) es b (w .3))
+
+-- what is packed after the pairs before i
+pub record Filled (from to ws firsts seconds : List ℕ) (s : Cut) (left : List ℕ) (first : Route) (sum i : ℕ) : Type 0 where
+  pub long : length left ≡ most-edges
+  pub packed : Packed ws (Apart from to firsts seconds) s left sum
+  pub fair : Fair first
+  pub none : first .len ≡ 0 → Unspent ws (s .chosen) left × ((k : ℕ) → k < i → Parts from to (getD firsts k 0) (getD seconds k 0) (s .chosen))
+  pub next : 0 < first .len → Next ws (Apart from to firsts seconds) (s .chosen) first
+
+module _ (from to links ws firsts seconds : List ℕ) (kn : Known from to links ws firsts seconds) where
+  abbrev P : List Bool → Type 0
+  P = Apart from to firsts seconds
+
+  module _ (left : List ℕ) (i a b : ℕ) (l : i < length firsts) (pa : a ≡ getD firsts i 0) (pb : b ≡ getD seconds i 0) (r : Route) (fo : Found from to left a b r) where
+    pub fair-route : Fair r
+    fair-route = record { short = fo .short; below = λ k h. omega (arith, kn .net .few, fo .edge k h .0) }
+
+    -- a cut has an edge of the route
+    meets : 0 < r .len → (t : List Bool) → P t → (k : ℕ) × (k < r .len) × Has t (getD (r .edges) k 0)
+    meets some t p = ⊎-elim (λ q. q) (λ q. absurd (let w = fo .way some t q in p i l (w .0) (subst₂ʷ t (w .0) (w .1)))) (find-below (λ k. getD t (getD (r .edges) k 0) false) (r .len))
+      where
+        subst₂ʷ : (t : List Bool) (es : List ℕ) → Way from to (Out t) a es b → Way from to (Out t) (getD firsts i 0) es (getD seconds i 0)
+        subst₂ʷ t es w = subst (λ (x : ℕ). Way from to (Out t) x es (getD seconds i 0)) pa (subst (λ (x : ℕ). Way from to (Out t) a es x) pb w)
+
+    -- the first route, when nothing is spent
+    next-first : (s : List Bool) → Unspent ws s left → 0 < r .len → Next ws P s r
+    next-first s u some = record { edge = edge; must = meets some }
+      where
+        edge : (k : ℕ) → k < r .len → (getD (r .edges) k 0 < length ws) × (1 ≤ getD ws (getD (r .edges) k 0) 0) × (getD s (getD (r .edges) k 0) false ≡ false)
+        edge k h =
+            let f = fo .edge k h in
+            (omega (arith, f .0, kn .weights), omega (arith, f .1, u .low (getD (r .edges) k 0)), ⊎-elim (λ y. absurd (omega (arith, f .1, u .none _ y))) (λ y. y) (bool (getD s (getD (r .edges) k 0) false)))
+
+    -- no route: s keeps the pair apart
+    parts-first : (s : List Bool) → Unspent ws s left → r .len ≡ 0 → Parts from to (getD firsts i 0) (getD seconds i 0) s
+    parts-first s u z es w = fo .none z es (way-map from to (Out s) (Remains left) open′ a es b (subst⁻¹ (λ (x : ℕ). Way from to (Out s) x es b) pa (subst⁻¹ (λ (x : ℕ). Way from to (Out s) (getD firsts i 0) es x) pb w)))
+      where
+        open′ : (e : ℕ) → e < length from → Out s e → Remains left e
+        open′ e h o = omega (arith, u .full e (omega (arith, h, kn .weights)) o, kn .some e (omega (arith, h, kn .weights)))
+
+  module _ (s : Cut) (ms : Made ws s) where
+    pub filled-start : (left : List ℕ) (first : Route) → length left ≡ most-edges → Unspent ws (s .chosen) left → first .len ≡ 0 → Filled from to ws firsts seconds s left first 0 0
+    filled-start left first l u z = record {
+      long = l;
+      packed = λ t b. omega (arith, total-unspent (λ i. getD ws i 0) (λ i. getD left i 0) 0 (s .chosen) t (ms .edges .long ∙ sym (b .edges .long)) (b .has) (λ e i q h. at-same left (omega (arith, q)) ∙ u .none e h) (u .low), ms .sum);
+      fair = record { short = omega arith; below = λ k h. absurd (omega arith) };
+      none = λ q. (u, λ k h. absurd (omega arith));
+      next = λ h. absurd (omega arith);
+    }
+
+    module _ (left : List ℕ) (first : Route) (sum i a b : ℕ) (f : Filled from to ws firsts seconds s left first sum i) (l : i < length firsts) (pa : a ≡ getD firsts i 0) (pb : b ≡ getD seconds i 0) (r : Route) (fo : Found from to left a b r) where
+      -- the pair has no route
+      pub filled-next : r .len ≡ 0 → Filled from to ws firsts seconds s left first sum (i + 1)
+      filled-next z = record {
+        long = f .long;
+        packed = f .packed;
+        fair = f .fair;
+        none = λ q. (f .none q .0, below-more (λ k. Parts from to (getD firsts k 0) (getD seconds k 0) (s .chosen)) i (f .none q .1) (parts-first left i a b l pa pb r fo (s .chosen) (f .none q .0) z));
+        next = f .next;
+      }
+
+      module _ (some : 0 < r .len) (q : ℕ) (sm : Smallest r left q) where
+        pub earlier-some : (o : Route) → (first .len ≡ 0 → o ≡ r) → (0 < first .len → o ≡ first) → 0 < o .len
+        earlier-some o o0 o1 = ⊎-elim (λ z. omega (arith, z, ap (λ (x : Route). x .len) (o1 z))) (λ z. let y : first .len ≡ 0 = omega (arith, z) in omega (arith, some, ap (λ (x : Route). x .len) (o0 y))) (lt-or-ge 0 (first .len))
+
+        pub filled-more : (left′ : List ℕ) (o : Route) (w : ℕ) → Reduced r q left left′ → w ≡ q → (first .len ≡ 0 → o ≡ r) → (0 < first .len → o ≡ first) → Filled from to ws firsts seconds s left′ o (sum + w) i
+        filled-more left′ o w rd e o0 o1 = record {
+          long = rd .long;
+          packed = packed;
+          fair = go .0;
+          none = λ z. absurd (omega (arith, go .1, z));
+          next = λ h. go .2;
+        }
+          where
+            packed : (t : List Bool) → Branch ws P (s .chosen) t → s .weight + (sum + w) + weigh left′ t ≤ weigh ws t
+            packed t br =
+                let m = meets left i a b l pa pb r fo some t (br .good) in
+                omega (arith, f .packed t br, total-less (λ i. getD left i 0) (λ i. getD left′ i 0) 0 t q (getD (r .edges) (m .0) 0) (getD (r .edges) (m .0) 0) (omega arith) (rd .down) (m .2) (rd .less (m .0) (m .1) (sm .under (m .0) (m .1))), e)
+
+            go : Fair o × (0 < o .len) × Next ws P (s .chosen) o
+            go = ⊎-elim (λ z. subst⁻¹ (λ (x : Route). Fair x × (0 < x .len) × Next ws P (s .chosen) x) (o1 z) (f .fair, z, f .next z))
+                (λ z. let y : first .len ≡ 0 = omega (arith, z) in subst⁻¹ (λ (x : Route). Fair x × (0 < x .len) × Next ws P (s .chosen) x) (o0 y) (fair-route left i a b l pa pb r fo, some, next-first left i a b l pa pb r fo (s .chosen) (f .none y .0) some))
+                (lt-or-ge 0 (first .len))
+
+    pub filled-end : (left : List ℕ) (first : Route) (sum i : ℕ) → Filled from to ws firsts seconds s left first sum i → length firsts ≤ i → Bounded ws P s (record { route = first; left = left; sum = sum })
+    filled-end left first sum i f l = record { fair = f .fair; packed = f .packed; none = λ z k h. f .none z .1 k (omega arith); next = f .next }
+
+    pub filled-over : (left : List ℕ) (first : Route) (sum i : ℕ) → Filled from to ws firsts seconds s left first sum i → 0 < first .len → Bounded ws P s (record { route = first; left = left; sum = sum })
+    filled-over left first sum i f l = record { fair = f .fair; packed = f .packed; none = λ z. absurd (omega (arith, l, z)); next = f .next }

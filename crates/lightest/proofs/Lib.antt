@@ -1,0 +1,11 @@
+-- The mathematics of the search for the lightest set of edges.
+pub mod Facts
+pub mod Diff
+pub mod Weights
+pub mod Fore
+pub mod Grown
+pub mod Residues
+pub mod Filled
+pub mod Tried
+pub mod Listed
+pub mod Whole

@@ -1,0 +1,72 @@
+-- What the functions of the search say of their results. P is what a cut must satisfy: nothing here looks inside it.
+-- Assumes nothing.
+use mathlib.Core.Bool.{Bool, true, false}
+use mathlib.Core.List.{List}
+use mathlib.Core.Path.{_≡_}
+use Prim.Native.Nat.{ℕ, _+_, _<_, _≤_}
+use lib.ListN.{length, getD}
+use Rattle.lightest.specs.declared.Cut.{Cut}
+use Rattle.lightest.specs.declared.Pick.{Pick}
+use Rattle.lightest.specs.declared.pack.Packing.{Packing}
+use Rattle.route.specs.declared.Route.{Route}
+use Rattle.lightest.specs.Made.{Made, most-weight}
+use Rattle.lightest.specs.Sets.{Has, Edges, PartOf, weigh}
+use Rattle.graph.specs.Limits.{most-edges, most-nodes}
+
+-- the cuts that a branch of the search looks among: those that have the edges of s
+pub record Branch (ws : List ℕ) (P : List Bool → Type 0) (s t : List Bool) : Type 0 where
+  pub edges : Edges ws t
+  pub good : P t
+  pub has : PartOf s t
+
+-- a route within the limits
+pub record Fair (route : Route) : Type 0 where
+  pub short : route .len ≤ most-nodes
+  pub below : (k : ℕ) → k < route .len → getD (route .edges) k 0 < most-edges
+
+-- edges that s has none of, and of which every cut has one
+pub record Next (ws : List ℕ) (P : List Bool → Type 0) (s : List Bool) (route : Route) : Type 0 where
+  pub edge : (k : ℕ) → k < route .len → (getD (route .edges) k 0 < length ws) × (1 ≤ getD ws (getD (route .edges) k 0) 0) × (getD s (getD (route .edges) k 0) false ≡ false)
+  pub must : (t : List Bool) → P t → (k : ℕ) × (k < route .len) × Has t (getD (route .edges) k 0)
+
+-- what is left at first: nothing of the edges of s, all of any other
+pub record Unspent (ws : List ℕ) (s : List Bool) (left : List ℕ) : Type 0 where
+  pub none : (e : ℕ) → getD s e false ≡ true → getD left e 0 ≡ 0
+  pub low : (e : ℕ) → getD left e 0 ≤ getD ws e 0
+  pub full : (e : ℕ) → e < length ws → getD s e false ≡ false → getD left e 0 ≡ getD ws e 0
+
+-- at most what is left of each edge of the route, and something where something is left of each
+pub record Smallest (route : Route) (left : List ℕ) (a : ℕ) : Type 0 where
+  pub under : (k : ℕ) → k < route .len → a ≤ getD left (getD (route .edges) k 0) 0
+  pub some : ((k : ℕ) → k < route .len → 1 ≤ getD left (getD (route .edges) k 0) 0) → 1 ≤ a
+
+-- a less at each edge of the route, and no more than before anywhere
+pub record Reduced (route : Route) (a : ℕ) (left left′ : List ℕ) : Type 0 where
+  pub long : length left′ ≡ most-edges
+  pub down : (e : ℕ) → getD left′ e 0 ≤ getD left e 0
+  pub less : (k : ℕ) → k < route .len → a ≤ getD left (getD (route .edges) k 0) 0 → getD left′ (getD (route .edges) k 0) 0 + a ≤ getD left (getD (route .edges) k 0) 0
+
+-- the amounts packed and what is left weigh no more than the rest of any cut of the branch (weak duality)
+abbrev pub Packed : List ℕ → (List Bool → Type 0) → Cut → List ℕ → ℕ → Type 0
+Packed ws P s left sum = (t : List Bool) → Branch ws P (s .chosen) t → s .weight + sum + weigh left t ≤ weigh ws t
+
+-- what a packing tells of the branch of s: a bound, and a route to go on with, or that s is a cut
+pub record Bounded (ws : List ℕ) (P : List Bool → Type 0) (s : Cut) (b : Packing) : Type 0 where
+  pub fair : Fair (b .route)
+  pub packed : Packed ws P s (b .left) (b .sum)
+  pub none : b .route .len ≡ 0 → P (s .chosen)
+  pub next : 0 < b .route .len → Next ws P (s .chosen) (b .route)
+
+-- a cut of the branch that weighs at most a more than s, and than which none of the branch is lighter
+pub record Lightest (ws : List ℕ) (P : List Bool → Type 0) (s : Cut) (a : ℕ) (c : Cut) : Type 0 where
+  pub made : Made ws c
+  pub good : P (c .chosen)
+  pub has : PartOf (s .chosen) (c .chosen)
+  pub spent : c .weight ≤ s .weight + a
+  pub least : (t : List Bool) → Branch ws P (s .chosen) t → c .weight ≤ weigh ws t
+
+-- one such, or none where each cut of the branch weighs more
+pub record Picked (ws : List ℕ) (P : List Bool → Type 0) (s : Cut) (a : ℕ) (r : Pick) : Type 0 where
+  pub some : r .found ≡ true → Lightest ws P s a (r .cut)
+  pub none : r .found ≡ false → (t : List Bool) → Branch ws P (s .chosen) t → s .weight + a < weigh ws t
+  pub small : r .cut .weight < most-weight
