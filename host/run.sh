@@ -23,7 +23,7 @@ install_missing doctest-dev cmake make || fail "packages could not be installed:
 
 mkdir -p "$build"
 log=$build/log
-{ cmake -S . -B "$build" "${cmake_words[@]}" -DFENCE_ARCHIVE="$archive" && cmake --build "$build" -j 1; } \
+{ cmake -S . -B "$build" "${cmake_words[@]}" -DFENCE_ARCHIVE="$archive" && cmake --build "$build" -j "$(nproc)"; } \
     >"$log" 2>&1 || { cat "$log"; fail "the host tests could not be built"; }
 
 # Runs a program and takes the two counts from its last matching line.
