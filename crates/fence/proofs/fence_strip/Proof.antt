@@ -5,30 +5,24 @@ use borrow.Author.Needs.{needs}
 use Rattle.fence.proofs.fence_strip.Statement.{statement}
 use Rattle.fence.proofs.fence_strip.Tie as tie
 
--- src/lib.rt:55:11
 read-requires : tie.Need-read-requires
 read-requires c κs = search needs
 
--- src/lib.rt:56:26
 enum-known-answer : tie.Need-enum-known-answer
 enum-known-answer c = search needs
 
--- src/lib.rt:56:44
 refused-requires : tie.Need-refused-requires
 refused-requires c κs = search needs
 
--- src/lib.rt:57:24
 enum-known-counts : tie.Need-enum-known-counts
 enum-known-counts c = search needs
 
--- src/lib.rt:57:52
 decode-requires : tie.Need-decode-requires
 decode-requires c κs =
     let k = c .before in
     let r = k .before .before in
     whole-read (r .before .before .before .args .file .now) _ (k .counts .given .0 .0) (k .counts .given .1) (r .read .ensures)
 
--- src/lib.rt:57:35
 strip-requires : tie.Need-strip-requires
 strip-requires c κs =
     let d = c .before in
@@ -36,18 +30,15 @@ strip-requires c κs =
     let r = k .before .before in
     whole-ready (r .before .before .before .args .file .now) _ (k .counts .given .0 .0) (k .counts .given .1) (r .read .ensures) _ (d .decode .ensures)
 
--- src/lib.rt:51:1
 returns : tie.Need-returns
 returns c =
     let k = c .before .before in
     let r = k .before .before in
     strip-unread (r .before .before .before .args .file .now) _ _ _ _ (r .read .ensures) (k .answer .given .1) _ _ (c .refused .ensures)
 
--- src/lib.rt:51:1
 same-length : tie.Need-same-length
 same-length c = search needs
 
--- src/lib.rt:51:1
 returns-2 : tie.Need-returns-2
 returns-2 c =
     let w = c .before .before in

@@ -4,33 +4,27 @@ use borrow.Author.Needs.{needs}
 use Rattle.fence_list.proofs.written.Statement.{statement}
 use Rattle.fence_list.proofs.written.Tie as tie
 
--- src/main.rt:73:37
 read-requires : tie.Need-read-requires
 read-requires c κs = search needs
 
--- src/main.rt:73:27
 enum-known-counts : tie.Need-enum-known-counts
 enum-known-counts c = search needs
 
--- src/main.rt:74:16
 decode-requires : tie.Need-decode-requires
 decode-requires c κs =
     let k = c .before in
     let r = k .before .before in
     whole-read _ _ (k .counts .given .0 .0) (k .counts .given .1) (r .read .ensures)
 
--- src/main.rt:74:9
 fences-requires : tie.Need-fences-requires
 fences-requires c κs = search needs
 
 enum-told : tie.Need-enum-told
 enum-told c = search needs
 
--- src/main.rt:72:1
 returns : tie.Need-returns
 returns c = search needs
 
--- src/main.rt:72:1
 returns-2 : tie.Need-returns-2
 returns-2 c = search needs
 

@@ -12,51 +12,39 @@ use Rattle.graph.proofs.fits.Tie as tie
 agreed : {a b x y : Want} → a ≡ x → b ≡ y → agree x y ≡ agree a b
 agreed p q = sym (ap₂ agree p q)
 
--- src/lib.rt:67:11
 wants-requires : tie.Need-wants-requires
 wants-requires c κs = search needs
 
--- src/lib.rt:68:23
 enum-told : tie.Need-enum-told
 enum-told c = search needs
 
--- src/lib.rt:69:28
 enum-told-2 : tie.Need-enum-told-2
 enum-told-2 c = search needs
 
--- src/lib.rt:69:28
 wants-requires-2 : tie.Need-wants-requires-2
 wants-requires-2 c κs = search needs
 
--- src/lib.rt:70:27
 enum-told-3 : tie.Need-enum-told-3
 enum-told-3 c = search needs
 
--- src/lib.rt:71:26
 enum-told-4 : tie.Need-enum-told-4
 enum-told-4 c = search needs
 
--- src/lib.rt:72:31
 enum-told-5 : tie.Need-enum-told-5
 enum-told-5 c = search needs
 
--- src/lib.rt:74:18
 enum-known-x : tie.Need-enum-known-x
 enum-known-x c = search needs
 
--- src/lib.rt:74:33
 wants-requires-3 : tie.Need-wants-requires-3
 wants-requires-3 c κs = search needs
 
--- src/lib.rt:75:27
 enum-told-6 : tie.Need-enum-told-6
 enum-told-6 c = search needs
 
--- src/lib.rt:76:26
 enum-told-7 : tie.Need-enum-told-7
 enum-told-7 c = search needs
 
--- src/lib.rt:77:22
 enum-known-y : tie.Need-enum-known-y
 enum-known-y c = search needs
 

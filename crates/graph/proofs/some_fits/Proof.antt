@@ -18,23 +18,18 @@ Inv-loop n p q rules i₀ i = (i ≤ n) × (ruledb (take i rules) p q ≡ false)
 abbrev μ-loop : tie.MeasureT-loop
 μ-loop n p q rules i₀ i = n - i
 
--- src/lib.rt:87:5
 loop-holds : tie.Need-loop-holds Inv-loop μ-loop
 loop-holds c = search needs
 
--- src/lib.rt:88:20
 mul-rule : tie.Need-mul-rule Inv-loop μ-loop
 mul-rule c = search needs
 
--- src/lib.rt:88:20
 array-copy-out-rule : tie.Need-array-copy-out-rule Inv-loop μ-loop
 array-copy-out-rule c = search needs
 
--- src/lib.rt:89:12
 fits-requires : tie.Need-fits-requires Inv-loop μ-loop
 fits-requires c κs = search needs
 
--- src/lib.rt:90:13
 returns : tie.Need-returns Inv-loop μ-loop
 returns c =
     let s = c .before .before .before .before .before in
@@ -44,15 +39,12 @@ returns c =
     some-more (λ (r : Rule). fitOf r (s .args .p) (s .args .q)) (s .args .t1) i _ (search needs) (inv .1) ∙ sym (c .before .fits2 .ensures) ∙ c .if1 .taken in
     sym (some-stays (λ (r : Rule). fitOf r (s .args .p) (s .args .q)) (s .args .t1) (suc i) (s .args .n) (search needs) more)
 
--- src/lib.rt:87:9
 add-i : tie.Need-add-i Inv-loop μ-loop
 add-i c = search needs
 
--- src/lib.rt:87:5
 loop-less : tie.Need-loop-less Inv-loop μ-loop
 loop-less c = search needs
 
--- src/lib.rt:87:5
 loop-again : tie.Need-loop-again Inv-loop μ-loop
 loop-again c =
     let s = c .before .before .before .before .before in
@@ -63,7 +55,6 @@ loop-again c =
           (some-more (λ (r : Rule). fitOf r (s .args .p) (s .args .q)) (s .args .t1) i _ (search needs) (inv .1) ∙ sym (c .before .fits2 .ensures) ∙ c .if1 .left),
     )
 
--- src/lib.rt:83:1
 returns-2 : tie.Need-returns-2 Inv-loop μ-loop
 returns-2 c =
     let e : c .before .loop .i ≡ c .before .before .args .n = omega arith in

@@ -6,99 +6,75 @@ use Rattle.graph.specs.Fit.{wantOf}
 use Rattle.graph.proofs.wants.Statement.{statement}
 use Rattle.graph.proofs.wants.Tie as tie
 
--- src/lib.rt:40:22
 enum-told : tie.Need-enum-told
 enum-told c = search needs
 
--- src/lib.rt:41:18
 enum-known-s : tie.Need-enum-known-s
 enum-known-s c = search needs
 
--- src/lib.rt:42:26
 enum-known-m : tie.Need-enum-known-m
 enum-known-m c = search needs
 
--- src/lib.rt:43:30
 enum-known-l : tie.Need-enum-known-l
 enum-known-l c = search needs
 
--- src/lib.rt:44:35
 enum-told-2 : tie.Need-enum-told-2
 enum-told-2 c = search needs
 
--- src/lib.rt:45:33
 enum-told-3 : tie.Need-enum-told-3
 enum-told-3 c = search needs
 
--- src/lib.rt:47:25
 enum-known-m-2 : tie.Need-enum-known-m-2
 enum-known-m-2 c = search needs
 
--- src/lib.rt:48:36
 enum-told-4 : tie.Need-enum-told-4
 enum-told-4 c = search needs
 
--- src/lib.rt:49:29
 enum-known-l-2 : tie.Need-enum-known-l-2
 enum-known-l-2 c = search needs
 
--- src/lib.rt:50:33
 enum-told-5 : tie.Need-enum-told-5
 enum-told-5 c = search needs
 
--- src/lib.rt:52:29
 enum-told-6 : tie.Need-enum-told-6
 enum-told-6 c = search needs
 
--- src/lib.rt:53:36
 enum-told-7 : tie.Need-enum-told-7
 enum-told-7 c = search needs
 
--- src/lib.rt:54:35
 enum-told-8 : tie.Need-enum-told-8
 enum-told-8 c = search needs
 
--- src/lib.rt:55:33
 enum-told-9 : tie.Need-enum-told-9
 enum-told-9 c = search needs
 
--- src/lib.rt:36:1
 returns : tie.Need-returns
 returns c = search needs
 
--- src/lib.rt:36:1
 returns-2 : tie.Need-returns-2
 returns-2 c = sym (ap₂ wantOf (c .before .before .before .before .before .before .before .s .given .1 ∙ ap Is (c .before .before .before .before .m .given .1)) (c .before .l .given .1))
 
--- src/lib.rt:36:1
 returns-3 : tie.Need-returns-3
 returns-3 c = search needs
 
--- src/lib.rt:36:1
 returns-4 : tie.Need-returns-4
 returns-4 c = search needs
 
--- src/lib.rt:36:1
 returns-5 : tie.Need-returns-5
 returns-5 c = search needs
 
--- src/lib.rt:36:1
 returns-6 : tie.Need-returns-6
 returns-6 c = sym (ap₂ wantOf (c .before .before .before .before .before .before .before .s .given .1 ∙ ap Is (c .before .before .before .before .m2 .given .1)) (c .before .l2 .given .1))
 
--- src/lib.rt:36:1
 returns-7 : tie.Need-returns-7
 returns-7 c = search needs
 
--- src/lib.rt:36:1
 returns-8 : tie.Need-returns-8
 returns-8 c = search needs
 
--- src/lib.rt:36:1
 returns-9 : tie.Need-returns-9
 returns-9 c = search needs
 
--- src/lib.rt:36:1
 returns-10 : tie.Need-returns-10
 returns-10 c = search needs
 

@@ -48,40 +48,32 @@ module _ (w : tie.After-wide3 Inv-loop2 μ-loop2 Inv-loop μ-loop) where
   within : w .wide3 .result < most-nodes
   within = omega (arith, w .wide3 .ensures .0, net (edge .before) .tail (edge .before .loop2 .e) (edge .loop2-test .taken))
 
--- src/lib.rt:127:17
 start-requires : tie.Need-start-requires Inv-loop2 μ-loop2 Inv-loop μ-loop
 start-requires c κs = search needs
 
--- src/lib.rt:129:5
 loop-holds : tie.Need-loop-holds Inv-loop2 μ-loop2 Inv-loop μ-loop
 loop-holds c =
     let st = c .before .before .before in
     (spread-start _ _ _ _ _ _ _ _ (st .pre .1 .1) (c .start .ensures .0 .0) (c .start .ensures .0 .1) (c .start .ensures .1 .0) (c .start .ensures .1 .1), start-far _ _ _ (c .start .ensures .0 .0) (st .pre .1 .0) (st .pre .1 .2))
 
--- src/lib.rt:130:22
 element-copy-out-wide : tie.Need-element-copy-out-wide Inv-loop2 μ-loop2 Inv-loop μ-loop
 element-copy-out-wide c = let r = c .before .loop .inv .0 in omega (arith, c .loop-test .taken, r .all, r .room)
 
--- src/lib.rt:130:13
 wide-requires : tie.Need-wide-requires Inv-loop2 μ-loop2 Inv-loop μ-loop
 wide-requires c κs = search needs
 
--- src/lib.rt:131:17
 element-copy-out-d : tie.Need-element-copy-out-d Inv-loop2 μ-loop2 Inv-loop μ-loop
 element-copy-out-d c =
     let l = c .before .before .before in
     let st = l .before .before .before .before in
     node-known _ _ _ _ _ (st .pre .0 .0) (st .pre .0 .1) _ _ _ _ _ _ 0 (l .loop .inv .0) (omega (arith, c .before .before .loop-test .taken)) (c .wide .ensures .0)
 
--- src/lib.rt:132:26
 element-copy-out-wide-2 : tie.Need-element-copy-out-wide-2 Inv-loop2 μ-loop2 Inv-loop μ-loop
 element-copy-out-wide-2 c = search needs
 
--- src/lib.rt:132:13
 wide-requires-2 : tie.Need-wide-requires-2 Inv-loop2 μ-loop2 Inv-loop μ-loop
 wide-requires-2 c κs = search needs
 
--- src/lib.rt:133:9
 loop2-holds : tie.Need-loop2-holds Inv-loop2 μ-loop2 Inv-loop μ-loop
 loop2-holds c =
     let w = c .before .before .before in
@@ -89,78 +81,62 @@ loop2-holds c =
     let st = l .before .before .before .before in
     look-start _ _ _ _ _ (st .pre .0 .0) (st .pre .0 .1) _ _ _ _ _ _ _ (l .loop .inv .0) (omega (arith, w .before .before .loop-test .taken)) (w .wide .ensures .0) (c .wide2 .ensures .0)
 
--- src/lib.rt:134:16
 mul-if1 : tie.Need-mul-if1 Inv-loop2 μ-loop2 Inv-loop μ-loop
 mul-if1 c = search needs
 
--- src/lib.rt:134:16
 element-copy-out-if1 : tie.Need-element-copy-out-if1 Inv-loop2 μ-loop2 Inv-loop μ-loop
 element-copy-out-if1 c = search needs
 
--- src/lib.rt:135:25
 shared-slice-read-f : tie.Need-shared-slice-read-f Inv-loop2 μ-loop2 Inv-loop μ-loop
 shared-slice-read-f c = search needs
 
--- src/lib.rt:136:21
 wide-requires-3 : tie.Need-wide-requires-3 Inv-loop2 μ-loop2 Inv-loop μ-loop
 wide-requires-3 c κs = search needs
 
--- src/lib.rt:137:20
 element-copy-out-if2 : tie.Need-element-copy-out-if2 Inv-loop2 μ-loop2 Inv-loop μ-loop
 element-copy-out-if2 c = within c
 
--- src/lib.rt:139:33
 add-r : tie.Need-add-r Inv-loop2 μ-loop2 Inv-loop μ-loop
 add-r c =
     let l = edge (c .before .before) .before in
     let near = look-near _ _ _ _ _ (net l) (linked l) _ _ _ _ _ _ _ _ (l .loop2 .inv) in
     search (needs, near, l .loop2 .inv .spread .all)
 
--- src/lib.rt:139:21
 element-write-r : tie.Need-element-write-r Inv-loop2 μ-loop2 Inv-loop μ-loop
 element-write-r c = within (c .before .before)
 
--- src/lib.rt:140:32
 cast-r : tie.Need-cast-r Inv-loop2 μ-loop2 Inv-loop μ-loop
 cast-r c = search needs
 
--- src/lib.rt:140:21
 element-write-r-2 : tie.Need-element-write-r-2 Inv-loop2 μ-loop2 Inv-loop μ-loop
 element-write-r-2 c = within (c .before .before)
 
--- src/lib.rt:141:21
 element-write-r-3 : tie.Need-element-write-r-3 Inv-loop2 μ-loop2 Inv-loop μ-loop
 element-write-r-3 c =
     let w = c .before .before in
     let l = edge w .before in
     look-room _ _ _ _ _ (net l) (linked l) _ _ _ _ _ _ _ _ (l .loop2 .inv) _ (edge w .loop2-test .taken) (pos-of-ne-zero (w .before .before .if1 .taken)) (w .wide3 .ensures .0) (c .if2 .taken)
 
--- src/lib.rt:142:31
 add-r-2 : tie.Need-add-r-2 Inv-loop2 μ-loop2 Inv-loop μ-loop
 add-r-2 c = search needs
 
--- src/lib.rt:145:28
 add-wide : tie.Need-add-wide Inv-loop2 μ-loop2 Inv-loop μ-loop
 add-wide c = search needs
 
--- src/lib.rt:145:22
 element-copy-out-wide-3 : tie.Need-element-copy-out-wide-3 Inv-loop2 μ-loop2 Inv-loop μ-loop
 element-copy-out-wide-3 c =
     let n = c .before .before in
     omega (arith, n .loop2-test .taken, net (n .before) .few)
 
--- src/lib.rt:145:13
 wide-requires-4 : tie.Need-wide-requires-4 Inv-loop2 μ-loop2 Inv-loop μ-loop
 wide-requires-4 c κs = search needs
 
--- src/lib.rt:133:9
 loop2-less : tie.Need-loop2-less Inv-loop2 μ-loop2 Inv-loop μ-loop
 loop2-less c =
     let n = c .before .before .before .before in
     let l = n .before in
     omega (arith, look-less _ _ _ _ _ (net l) (linked l) _ _ _ _ _ _ _ _ (l .loop2 .inv) _ (n .loop2-test .taken) (c .wide4 .ensures .0))
 
--- src/lib.rt:133:9
 loop2-again : tie.Need-loop2-again Inv-loop2 μ-loop2 Inv-loop μ-loop
 loop2-again c =
     let j = c .before .before in
@@ -174,45 +150,37 @@ loop2-again c =
     (λ a. rw (a .1) (pass (λ o. absurd (omega (arith, a .0 .left, o))))))
     (j .if1 .came)
 
--- src/lib.rt:147:9
 add-i : tie.Need-add-i Inv-loop2 μ-loop2 Inv-loop μ-loop
 add-i c =
     let t = turn (c .before) in
     search (needs, t .loop-test .taken, t .before .loop .inv .0 .all)
 
--- src/lib.rt:148:12
 element-copy-out-if3 : tie.Need-element-copy-out-if3 Inv-loop2 μ-loop2 Inv-loop μ-loop
 element-copy-out-if3 c = omega (arith, start (c .before) .pre .1 .0, c .before .loop2 .inv .spread .long)
 
--- src/lib.rt:149:13
 trace-requires : tie.Need-trace-requires Inv-loop2 μ-loop2 Inv-loop μ-loop
 trace-requires c κs =
     let n = c .before .before in
     let l = n .before in
     (net l, ((start l .pre .1 .0, start l .pre .1 .2, c .if3 .taken), look-end _ _ _ _ _ (net l) (linked l) _ _ _ _ _ _ _ _ (l .loop2 .inv) (omega (arith, n .loop2-test .left))))
 
--- src/lib.rt:149:13
 returns : tie.Need-returns Inv-loop2 μ-loop2 Inv-loop μ-loop
 returns c = search needs
 
--- src/lib.rt:129:5
 loop-less : tie.Need-loop-less Inv-loop2 μ-loop2 Inv-loop μ-loop
 loop-less c =
     let t = turn (c .before .before .before) in
     omega (arith, t .loop-test .taken, t .before .loop .inv .0 .all)
 
--- src/lib.rt:129:5
 loop-again : tie.Need-loop-again Inv-loop2 μ-loop2 Inv-loop μ-loop
 loop-again c =
     let n = c .before .before in
     let l = n .before in
     (look-end _ _ _ _ _ (net l) (linked l) _ _ _ _ _ _ _ _ (l .loop2 .inv) (omega (arith, n .loop2-test .left)), omega (arith, c .if3 .left))
 
--- src/lib.rt:152:5
 no-route-requires : tie.Need-no-route-requires Inv-loop2 μ-loop2 Inv-loop μ-loop
 no-route-requires c κs = search needs
 
--- src/lib.rt:114:1
 returns-2 : tie.Need-returns-2 Inv-loop2 μ-loop2 Inv-loop μ-loop
 returns-2 c =
     let l = c .before .before in

@@ -17,51 +17,39 @@ Inv-loop to n l₀ e₀ l e = (e ≤ length to) × (length (l .entries) ≡ most
 abbrev μ-loop : tie.MeasureT-loop
 μ-loop to n l₀ e₀ l e = e
 
--- src/lib.rt:44:19
 cast-t6 : tie.Need-cast-t6 Inv-loop μ-loop
 cast-t6 c = search needs
 
--- src/lib.rt:47:5
 loop-holds : tie.Need-loop-holds Inv-loop μ-loop
 loop-holds c = (omega arith, search needs, linked-none _ _ (λ v h. getD-replicate {A = ℕ} (most-nodes + most-edges) v _ 0 (omega (arith, h))))
 
--- src/lib.rt:48:9
 sub-e : tie.Need-sub-e Inv-loop μ-loop
 sub-e c = search needs
 
--- src/lib.rt:49:22
 shared-slice-read-wide : tie.Need-shared-slice-read-wide Inv-loop μ-loop
 shared-slice-read-wide c = search needs
 
--- src/lib.rt:49:13
 wide-requires : tie.Need-wide-requires Inv-loop μ-loop
 wide-requires c κs = search needs
 
--- src/lib.rt:50:39
 element-copy-out-l : tie.Need-element-copy-out-l Inv-loop μ-loop
 element-copy-out-l c = search needs
 
--- src/lib.rt:50:19
 add-l : tie.Need-add-l Inv-loop μ-loop
 add-l c = search needs
 
--- src/lib.rt:50:9
 element-write-l : tie.Need-element-write-l Inv-loop μ-loop
 element-write-l c = search needs
 
--- src/lib.rt:51:24
 cast-l : tie.Need-cast-l Inv-loop μ-loop
 cast-l c = search needs
 
--- src/lib.rt:51:9
 element-write-l-2 : tie.Need-element-write-l-2 Inv-loop μ-loop
 element-write-l-2 c = search needs
 
--- src/lib.rt:47:5
 loop-less : tie.Need-loop-less Inv-loop μ-loop
 loop-less c = search needs
 
--- src/lib.rt:47:5
 loop-again : tie.Need-loop-again Inv-loop μ-loop
 loop-again c =
     let w = c .before in
@@ -72,7 +60,6 @@ loop-again c =
     let h : e < length (st .args .to .now) = omega (arith, l .loop .inv .0, i .loop-test .taken) in
     (omega (arith, h), omega (arith, l .loop .inv .1, length-set (set (l .loop .l .entries) (most-nodes + e) (getD (l .loop .l .entries) (w .wide .result) 0)) (w .wide .result) e, length-set (l .loop .l .entries) (most-nodes + e) (getD (l .loop .l .entries) (w .wide .result) 0)), linked-more _ _ e (w .wide .result) (l .loop .inv .1) (st .pre .0) h (omega (arith, w .wide .ensures .0, st .pre .1 e h)) (w .wide .ensures .0) (subst (Linked (st .args .to .now) (l .loop .l .entries)) (let z : l .loop .e ≡ e + 1 = omega (arith, i .loop-test .taken) in z) (l .loop .inv .2)))
 
--- src/lib.rt:38:1
 returns : tie.Need-returns Inv-loop μ-loop
 returns c = (c .before .loop .inv .1, subst (Linked _ _) (let z : c .before .loop .e ≡ 0 = omega (arith, c .loop-test .left) in z) (c .before .loop .inv .2))
 

@@ -12,31 +12,24 @@ Inv-loop out₀ at n edges p₀ i₀ out p i = Putting edge-bytes 8 at n edges o
 abbrev μ-loop : tie.MeasureT-loop
 μ-loop out₀ at n edges p₀ i₀ out p i = n - i
 
--- src/write.rt:44:5
 loop-holds : tie.Need-loop-holds Inv-loop μ-loop
 loop-holds c = putting-none edge-bytes 8 _ _ _ _ (search needs)
 
--- src/write.rt:45:30
 mul-put-edge : tie.Need-mul-put-edge Inv-loop μ-loop
 mul-put-edge c = search needs
 
--- src/write.rt:45:30
 array-copy-out-put-edge : tie.Need-array-copy-out-put-edge Inv-loop μ-loop
 array-copy-out-put-edge c = search needs
 
--- src/write.rt:45:9
 put-edge-requires : tie.Need-put-edge-requires Inv-loop μ-loop
 put-edge-requires c κs = search needs
 
--- src/write.rt:46:9
 add-i : tie.Need-add-i Inv-loop μ-loop
 add-i c = search needs
 
--- src/write.rt:44:5
 loop-less : tie.Need-loop-less Inv-loop μ-loop
 loop-less c = search needs
 
--- src/write.rt:44:5
 loop-again : tie.Need-loop-again Inv-loop μ-loop
 loop-again c =
     let pe = c .before .before in
@@ -44,11 +37,9 @@ loop-again c =
     let inv = l .loop .inv in
     putting-more edge-bytes 8 _ _ _ _ _ _ _ inv _ _ _ (search needs) (search needs) (pe .put-edge .ensures .0) (pe .put-edge .ensures .1)
 
--- src/write.rt:37:1
 same-length : tie.Need-same-length Inv-loop μ-loop
 same-length c = search needs
 
--- src/write.rt:37:1
 returns : tie.Need-returns Inv-loop μ-loop
 returns c = putting-all edge-bytes 8 _ _ _ _ _ _ _ (c .before .loop .inv) (search needs)
 

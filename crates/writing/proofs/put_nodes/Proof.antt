@@ -12,31 +12,24 @@ Inv-loop out₀ n nodes p₀ i₀ out p i = Putting label-bytes 4 0 n nodes out�
 abbrev μ-loop : tie.MeasureT-loop
 μ-loop out₀ n nodes p₀ i₀ out p i = n - i
 
--- src/write.rt:28:5
 loop-holds : tie.Need-loop-holds Inv-loop μ-loop
 loop-holds c = putting-none label-bytes 4 _ _ _ _ (search needs)
 
--- src/write.rt:29:20
 mul-node : tie.Need-mul-node Inv-loop μ-loop
 mul-node c = search needs
 
--- src/write.rt:29:20
 array-copy-out-node : tie.Need-array-copy-out-node Inv-loop μ-loop
 array-copy-out-node c = search needs
 
--- src/write.rt:31:9
 put-node-requires : tie.Need-put-node-requires Inv-loop μ-loop
 put-node-requires c κs = search needs
 
--- src/write.rt:32:9
 add-i : tie.Need-add-i Inv-loop μ-loop
 add-i c = search needs
 
--- src/write.rt:28:5
 loop-less : tie.Need-loop-less Inv-loop μ-loop
 loop-less c = search needs
 
--- src/write.rt:28:5
 loop-again : tie.Need-loop-again Inv-loop μ-loop
 loop-again c =
     let pe = c .before .before in
@@ -44,11 +37,9 @@ loop-again c =
     let inv = l .loop .inv in
     putting-more label-bytes 4 _ _ _ _ _ _ _ inv _ _ _ (search needs) (search needs) (pe .put-node .ensures .0) (pe .put-node .ensures .1)
 
--- src/write.rt:21:1
 same-length : tie.Need-same-length Inv-loop μ-loop
 same-length c = search needs
 
--- src/write.rt:21:1
 returns : tie.Need-returns Inv-loop μ-loop
 returns c =
     let all = putting-all label-bytes 4 _ _ _ _ _ _ _ (c .before .loop .inv) (search needs) in

@@ -12,31 +12,24 @@ Inv-loop out₀ at n orders p₀ i₀ out p i = Putting order-bytes 6 at n order
 abbrev μ-loop : tie.MeasureT-loop
 μ-loop out₀ at n orders p₀ i₀ out p i = n - i
 
--- src/write.rt:72:5
 loop-holds : tie.Need-loop-holds Inv-loop μ-loop
 loop-holds c = putting-none order-bytes 6 _ _ _ _ (search needs)
 
--- src/write.rt:73:31
 mul-put-order : tie.Need-mul-put-order Inv-loop μ-loop
 mul-put-order c = search needs
 
--- src/write.rt:73:31
 array-copy-out-put-order : tie.Need-array-copy-out-put-order Inv-loop μ-loop
 array-copy-out-put-order c = search needs
 
--- src/write.rt:73:9
 put-order-requires : tie.Need-put-order-requires Inv-loop μ-loop
 put-order-requires c κs = search needs
 
--- src/write.rt:74:9
 add-i : tie.Need-add-i Inv-loop μ-loop
 add-i c = search needs
 
--- src/write.rt:72:5
 loop-less : tie.Need-loop-less Inv-loop μ-loop
 loop-less c = search needs
 
--- src/write.rt:72:5
 loop-again : tie.Need-loop-again Inv-loop μ-loop
 loop-again c =
     let pe = c .before .before in
@@ -44,11 +37,9 @@ loop-again c =
     let inv = l .loop .inv in
     putting-more order-bytes 6 _ _ _ _ _ _ _ inv _ _ _ (search needs) (search needs) (pe .put-order .ensures .0) (pe .put-order .ensures .1)
 
--- src/write.rt:65:1
 same-length : tie.Need-same-length Inv-loop μ-loop
 same-length c = search needs
 
--- src/write.rt:65:1
 returns : tie.Need-returns Inv-loop μ-loop
 returns c = putting-all order-bytes 6 _ _ _ _ _ _ _ (c .before .loop .inv) (search needs)
 

@@ -12,31 +12,24 @@ Inv-loop out₀ at n rules p₀ i₀ out p i = Putting rule-bytes 6 at n rules o
 abbrev μ-loop : tie.MeasureT-loop
 μ-loop out₀ at n rules p₀ i₀ out p i = n - i
 
--- src/write.rt:58:5
 loop-holds : tie.Need-loop-holds Inv-loop μ-loop
 loop-holds c = putting-none rule-bytes 6 _ _ _ _ (search needs)
 
--- src/write.rt:59:30
 mul-put-rule : tie.Need-mul-put-rule Inv-loop μ-loop
 mul-put-rule c = search needs
 
--- src/write.rt:59:30
 array-copy-out-put-rule : tie.Need-array-copy-out-put-rule Inv-loop μ-loop
 array-copy-out-put-rule c = search needs
 
--- src/write.rt:59:9
 put-rule-requires : tie.Need-put-rule-requires Inv-loop μ-loop
 put-rule-requires c κs = search needs
 
--- src/write.rt:60:9
 add-i : tie.Need-add-i Inv-loop μ-loop
 add-i c = search needs
 
--- src/write.rt:58:5
 loop-less : tie.Need-loop-less Inv-loop μ-loop
 loop-less c = search needs
 
--- src/write.rt:58:5
 loop-again : tie.Need-loop-again Inv-loop μ-loop
 loop-again c =
     let pe = c .before .before in
@@ -44,11 +37,9 @@ loop-again c =
     let inv = l .loop .inv in
     putting-more rule-bytes 6 _ _ _ _ _ _ _ inv _ _ _ (search needs) (search needs) (pe .put-rule .ensures .0) (pe .put-rule .ensures .1)
 
--- src/write.rt:51:1
 same-length : tie.Need-same-length Inv-loop μ-loop
 same-length c = search needs
 
--- src/write.rt:51:1
 returns : tie.Need-returns Inv-loop μ-loop
 returns c = putting-all rule-bytes 6 _ _ _ _ _ _ _ (c .before .loop .inv) (search needs)
 

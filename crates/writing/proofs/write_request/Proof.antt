@@ -5,31 +5,24 @@ use borrow.Author.Needs.{needs}
 use Rattle.writing.proofs.write_request.Statement.{statement}
 use Rattle.writing.proofs.write_request.Tie as tie
 
--- src/write.rt:89:9
 put-nodes-requires : tie.Need-put-nodes-requires
 put-nodes-requires c κs = search needs
 
--- src/write.rt:90:9
 put-edges-requires : tie.Need-put-edges-requires
 put-edges-requires c κs = search needs
 
--- src/write.rt:91:9
 put-rules-requires : tie.Need-put-rules-requires
 put-rules-requires c κs = search needs
 
--- src/write.rt:92:9
 put-orders-requires : tie.Need-put-orders-requires
 put-orders-requires c κs = search needs
 
--- src/write.rt:93:5
 put-two-requires : tie.Need-put-two-requires
 put-two-requires c κs = search needs
 
--- src/write.rt:80:1
 same-length : tie.Need-same-length
 same-length c = search needs
 
--- src/write.rt:80:1
 returns : tie.Need-returns
 returns c =
     let t = c .before .before in

@@ -3,11 +3,9 @@ use borrow.Author.Needs.{needs}
 use Rattle.fence.proofs.answer.refused.Statement.{statement}
 use Rattle.fence.proofs.answer.refused.Tie as tie
 
--- src/answer.rt:14:17
 number-requires : tie.Need-number-requires
 number-requires c κs = search needs
 
--- src/answer.rt:10:1
 returns : tie.Need-returns
 returns c = λ i. record { answer = c .number .ensures i; place = c .before .args .place; fences = 0; weight = 0; length = 0 }
 

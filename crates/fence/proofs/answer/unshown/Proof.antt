@@ -3,11 +3,9 @@ use borrow.Author.Needs.{needs}
 use Rattle.fence.proofs.answer.unshown.Statement.{statement}
 use Rattle.fence.proofs.answer.unshown.Tie as tie
 
--- src/answer.rt:26:17
 number-requires : tie.Need-number-requires
 number-requires c κs = search needs
 
--- src/answer.rt:22:1
 returns : tie.Need-returns
 returns c = λ i. record { answer = c .number .ensures i; place = c .before .args .place; length = 0 }
 

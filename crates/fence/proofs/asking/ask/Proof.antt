@@ -5,22 +5,18 @@ use borrow.Author.Needs.{needs}
 use Rattle.fence.proofs.asking.ask.Statement.{statement}
 use Rattle.fence.proofs.asking.ask.Tie as tie
 
--- src/asking.rt:34:9
 unshown-requires : tie.Need-unshown-requires
 unshown-requires c κs = search needs
 
--- src/asking.rt:34:9
 returns : tie.Need-returns
 returns c =
     let t = c .before in
     let s = t .before .before in
     unknown-order (s .args .t1) (s .pre) (s .args .order) _ (t .if1 .taken) _ (c .unshown .ensures)
 
--- src/asking.rt:37:9
 unshown-requires-2 : tie.Need-unshown-requires-2
 unshown-requires-2 c κs = search needs
 
--- src/asking.rt:37:9
 returns-2 : tie.Need-returns-2
 returns-2 c =
     let t = c .before in
@@ -28,42 +24,33 @@ returns-2 c =
     let s = e .before .before in
     few-entries (s .args .t1) (s .pre) (s .args .order) _ (omega (arith, e .if1 .left)) (t .if2 .taken) _ (c .unshown2 .ensures)
 
--- src/asking.rt:39:9
 words-of-requires : tie.Need-words-of-requires
 words-of-requires c κs = search needs
 
--- src/asking.rt:40:13
 mul-o : tie.Need-mul-o
 mul-o c = search needs
 
--- src/asking.rt:40:13
 element-copy-out-o : tie.Need-element-copy-out-o
 element-copy-out-o c = search needs
 
--- src/asking.rt:41:39
 cast-open-route : tie.Need-cast-open-route
 cast-open-route c = search needs
 
--- src/asking.rt:41:57
 cast-open-route-2 : tie.Need-cast-open-route-2
 cast-open-route-2 c = search needs
 
--- src/asking.rt:41:9
 open-route-requires : tie.Need-open-route-requires
 open-route-requires c κs =
     let e = c .before .before .before .before .before in
     let s = e .before .before in
     order-nodes (s .args .t1) (s .pre) (s .args .order) (s .args .route .now) (omega (arith, e .if1 .left))
 
--- src/asking.rt:43:9
 put-route-requires : tie.Need-put-route-requires
 put-route-requires c κs = search needs
 
--- src/asking.rt:29:1
 same-length : tie.Need-same-length
 same-length c = search needs
 
--- src/asking.rt:29:1
 returns-3 : tie.Need-returns-3
 returns-3 c =
     let p = c .before .before in

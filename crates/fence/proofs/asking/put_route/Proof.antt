@@ -16,35 +16,27 @@ Inv-loop out₀ n nodes i₀ out i = (i ≤ n) × (length out ≡ length out₀)
 abbrev μ-loop : tie.MeasureT-loop
 μ-loop out₀ n nodes i₀ out i = n - i
 
--- src/asking.rt:21:5
 loop-holds : tie.Need-loop-holds Inv-loop μ-loop
 loop-holds c = (omega arith, search needs, copied-none _ (c .args .t2))
 
--- src/asking.rt:22:18
 mul-out : tie.Need-mul-out Inv-loop μ-loop
 mul-out c = search needs
 
--- src/asking.rt:22:18
 array-read-out : tie.Need-array-read-out Inv-loop μ-loop
 array-read-out c = search needs
 
--- src/asking.rt:22:9
 mul-out-2 : tie.Need-mul-out-2 Inv-loop μ-loop
 mul-out-2 c = search needs
 
--- src/asking.rt:22:9
 slice-write-out : tie.Need-slice-write-out Inv-loop μ-loop
 slice-write-out c = search needs
 
--- src/asking.rt:23:9
 add-i : tie.Need-add-i Inv-loop μ-loop
 add-i c = search needs
 
--- src/asking.rt:21:5
 loop-less : tie.Need-loop-less Inv-loop μ-loop
 loop-less c = search needs
 
--- src/asking.rt:21:5
 loop-again : tie.Need-loop-again Inv-loop μ-loop
 loop-again c =
     let l = c .before in
@@ -55,11 +47,9 @@ loop-again c =
       ap (λ (o : List ℕ). set o i (getD nodes i 0)) (l .loop .inv .2) ∙ copied-more _ nodes i (omega (arith, l .before .pre)) (search needs),
     )
 
--- src/asking.rt:16:1
 same-length : tie.Need-same-length Inv-loop μ-loop
 same-length c = search needs
 
--- src/asking.rt:16:1
 returns : tie.Need-returns Inv-loop μ-loop
 returns c =
     let l = c .before in

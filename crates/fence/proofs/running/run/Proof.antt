@@ -5,29 +5,23 @@ use borrow.Author.Needs.{needs}
 use Rattle.fence.proofs.running.run.Statement.{statement}
 use Rattle.fence.proofs.running.run.Tie as tie
 
--- src/running.rt:20:34
 open-orders-requires : tie.Need-open-orders-requires
 open-orders-requires c κs = search needs
 
--- src/running.rt:20:9
 chosen-cut-requires : tie.Need-chosen-cut-requires
 chosen-cut-requires c κs =
     let s = c .before .before in
     ((s .pre .sized, s .pre .proper .sound), (ready-orderly (s .args .g) (s .pre), c .open-orders .ensures))
 
--- src/running.rt:22:9
 count-requires : tie.Need-count-requires
 count-requires c κs = search needs
 
--- src/running.rt:23:23
 add-if1 : tie.Need-add-if1
 add-if1 c = search needs
 
--- src/running.rt:24:9
 refused-requires : tie.Need-refused-requires
 refused-requires c κs = search needs
 
--- src/running.rt:24:9
 returns : tie.Need-returns
 returns c =
     let k = c .before .before .before in
@@ -35,15 +29,12 @@ returns c =
     let s = cut .before .before .before in
     full-nodes (s .args .g) (s .pre) _ (cut .chosen-cut .ensures) _ (k .count .ensures .0) _ (c .before .if1 .taken) _ (c .refused .ensures)
 
--- src/running.rt:26:23
 add-if2 : tie.Need-add-if2
 add-if2 c = search needs
 
--- src/running.rt:27:9
 refused-requires-2 : tie.Need-refused-requires-2
 refused-requires-2 c κs = search needs
 
--- src/running.rt:27:9
 returns-2 : tie.Need-returns-2
 returns-2 c =
     let t = c .before in
@@ -52,7 +43,6 @@ returns-2 c =
     let s = cut .before .before .before in
     full-edges (s .args .g) (s .pre) _ (cut .chosen-cut .ensures) _ (k .count .ensures .0) _ (t .if2 .taken) _ (c .refused2 .ensures)
 
--- src/running.rt:29:9
 put-on-requires : tie.Need-put-on-requires
 put-on-requires c κs =
     let e = c .before .before in
@@ -61,15 +51,12 @@ put-on-requires c κs =
     let s = cut .before .before .before in
     ((s .pre .sized, s .pre .roomy), (cut .chosen-cut .ensures .below, (omega (arith, k .count .ensures .0, e .if1 .left), omega (arith, k .count .ensures .0, c .if2 .left))))
 
--- src/running.rt:30:20
 size-of-requires : tie.Need-size-of-requires
 size-of-requires c κs = search needs
 
--- src/running.rt:31:9
 refused-requires-3 : tie.Need-refused-requires-3
 refused-requires-3 c κs = search needs
 
--- src/running.rt:31:9
 returns-3 : tie.Need-returns-3
 returns-3 c =
     let t = c .before in
@@ -82,19 +69,15 @@ returns-3 c =
     short-buffer (s .args .g) (s .pre) _ (cut .chosen-cut .ensures) _ (k .count .ensures .0) _ (omega (arith, e1 .if1 .left)) (omega (arith, e2 .if2 .left))
     _ (h .put-on .ensures .0) (h .put-on .ensures .1 .0) (omega (arith, t .if3 .taken, t .before .size-of .ensures .0)) _ (c .refused3 .ensures)
 
--- src/running.rt:33:9
 write-request-requires : tie.Need-write-request-requires
 write-request-requires c κs = search needs
 
--- src/running.rt:38:17
 cast-t18 : tie.Need-cast-t18
 cast-t18 c = search needs
 
--- src/running.rt:16:1
 same-length : tie.Need-same-length
 same-length c = search needs
 
--- src/running.rt:16:1
 returns-4 : tie.Need-returns-4
 returns-4 c =
     let w = c .before .before .before in

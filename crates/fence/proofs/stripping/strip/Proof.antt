@@ -5,26 +5,21 @@ use borrow.Author.Needs.{needs}
 use Rattle.fence.proofs.stripping.strip.Statement.{statement}
 use Rattle.fence.proofs.stripping.strip.Tie as tie
 
--- src/stripping.rt:22:9
 refused-requires : tie.Need-refused-requires
 refused-requires c κs = search needs
 
--- src/stripping.rt:22:9
 returns : tie.Need-returns
 returns c =
     let t = c .before in
     let s = t .before .before in
     more-asked (s .args .g) (s .pre) (s .args .count) _ (t .if1 .taken) _ (c .refused .ensures)
 
--- src/stripping.rt:26:8
 names-above-requires : tie.Need-names-above-requires
 names-above-requires c κs = search needs
 
--- src/stripping.rt:27:9
 refused-requires-2 : tie.Need-refused-requires-2
 refused-requires-2 c κs = search needs
 
--- src/stripping.rt:27:9
 returns-2 : tie.Need-returns-2
 returns-2 c =
     let t = c .before in
@@ -32,15 +27,12 @@ returns-2 c =
     let s = a .before .before .before .before in
     named-above (s .args .g) (s .pre) (s .args .count) _ (a .names-above .ensures .0 (t .if2 .taken)) _ (c .refused2 .ensures)
 
--- src/stripping.rt:29:9
 take-off-requires : tie.Need-take-off-requires
 take-off-requires c κs = search needs
 
--- src/stripping.rt:32:9
 refused-requires-3 : tie.Need-refused-requires-3
 refused-requires-3 c κs = search needs
 
--- src/stripping.rt:32:9
 returns-3 : tie.Need-returns-3
 returns-3 c =
     let t = c .before in
@@ -48,15 +40,12 @@ returns-3 c =
     let s = o .before .before .before .before .before .before in
     not-freed (s .args .g) (s .pre) (s .args .count) _ (o .take-off .result .graph) _ (o .take-off .ensures .0) (t .if3 .taken) _ (c .refused3 .ensures)
 
--- src/stripping.rt:34:20
 size-of-requires : tie.Need-size-of-requires
 size-of-requires c κs = search needs
 
--- src/stripping.rt:35:9
 refused-requires-4 : tie.Need-refused-requires-4
 refused-requires-4 c κs = search needs
 
--- src/stripping.rt:35:9
 returns-4 : tie.Need-returns-4
 returns-4 c =
     let t = c .before in
@@ -69,19 +58,15 @@ returns-4 c =
     small-buffer (s .args .g) (s .pre) (s .args .count) _ (o .take-off .result .graph) _ (o .take-off .ensures .0) (a .names-above .ensures .1 (e2 .if2 .left)) (omega (arith, e1 .if1 .left)) (omega (arith, e3 .if3 .left))
     (o .take-off .ensures .1 .0) (omega (arith, t .if4 .taken, t .before .size-of .ensures .0)) _ (c .refused4 .ensures)
 
--- src/stripping.rt:37:9
 write-request-requires : tie.Need-write-request-requires
 write-request-requires c κs = search needs
 
--- src/stripping.rt:41:18
 sub-t16 : tie.Need-sub-t16
 sub-t16 c = search needs
 
--- src/stripping.rt:16:1
 same-length : tie.Need-same-length
 same-length c = search needs
 
--- src/stripping.rt:16:1
 returns-5 : tie.Need-returns-5
 returns-5 c =
     let w = c .before .before in

@@ -18,19 +18,15 @@ Inv-loop n a b edges i₀ i = (i ≤ n) × Passed (λ j. ((getD (take n edges) j
 abbrev μ-loop : tie.MeasureT-loop
 μ-loop n a b edges i₀ i = n - i
 
--- src/off.rt:71:5
 loop-holds : tie.Need-loop-holds Inv-loop μ-loop
 loop-holds c = (omega arith, passed-none _ _)
 
--- src/off.rt:72:17
 mul-e : tie.Need-mul-e Inv-loop μ-loop
 mul-e c = search needs
 
--- src/off.rt:72:17
 array-copy-out-e : tie.Need-array-copy-out-e Inv-loop μ-loop
 array-copy-out-e c = search needs
 
--- src/off.rt:75:17
 returns : tie.Need-returns Inv-loop μ-loop
 returns c =
     let t = c .before .before in
@@ -39,15 +35,12 @@ returns c =
     first-here _ _ _ _ (search needs) (search needs) (l .loop .inv .1)
     (ap (λ (e : Edge). e .from) same ∙ t .if1 .taken, ap (λ (e : Edge). e .to) same ∙ c .if2 .taken)
 
--- src/off.rt:78:9
 add-i : tie.Need-add-i Inv-loop μ-loop
 add-i c = search needs
 
--- src/off.rt:71:5
 loop-less : tie.Need-loop-less Inv-loop μ-loop
 loop-less c = search needs
 
--- src/off.rt:71:5
 loop-again : tie.Need-loop-again Inv-loop μ-loop
 loop-again c =
     let l = c .before .before .before .before in
@@ -57,7 +50,6 @@ loop-again c =
     (λ w. (search needs, passed-more _ _ _ (l .loop .inv .1) (λ p. w .left (sym (ap (λ (e : Edge). e .from) same) ∙ p .0))))
     (c .if1 .came)
 
--- src/off.rt:66:1
 returns-2 : tie.Need-returns-2 Inv-loop μ-loop
 returns-2 c = first-none _ _ _ _ (omega arith) (omega arith) (omega arith) (c .before .loop .inv .1)
 

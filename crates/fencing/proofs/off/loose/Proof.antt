@@ -54,91 +54,69 @@ one-each c =
       starts = subst (FirstFrom (StartsThere g) 0 (g .«edge_count»)) (e5 .if5 .left) (e5 .before .first-start .ensures);
     }
 
--- src/off.rt:90:9
 returns : tie.Need-returns
 returns c = none-empty _ (c .before .pre .0) (c .before .pre .1) (c .if1 .taken)
 
--- src/off.rt:92:13
 sub-v : tie.Need-sub-v
 sub-v c = search needs
 
--- src/off.rt:93:13
 sub-m : tie.Need-sub-m
 sub-m c = search needs
 
--- src/off.rt:94:16
 mul-node : tie.Need-mul-node
 mul-node c = search needs
 
--- src/off.rt:94:16
 element-copy-out-node : tie.Need-element-copy-out-node
 element-copy-out-node c = search needs
 
--- src/off.rt:96:9
 is-fence-requires : tie.Need-is-fence-requires
 is-fence-requires c κs = search needs
 
--- src/off.rt:97:9
 returns-2 : tie.Need-returns-2
 returns-2 c = none-fence (some-edge (c .before)) _ (sym (c .before .is-fence .ensures) ∙ not-true _ (c .if2 .taken))
 
--- src/off.rt:100:9
 next-end-requires : tie.Need-next-end-requires
 next-end-requires c κs = search needs
 
--- src/off.rt:102:9
 returns-3 : tie.Need-returns-3
 returns-3 c = none-end (some-edge (c .before .before .before .before)) (c .before .next-end .ensures) (c .if3 .taken)
 
--- src/off.rt:104:30
 add-next-end : tie.Need-add-next-end
 add-next-end c = search needs
 
--- src/off.rt:104:8
 next-end-requires-2 : tie.Need-next-end-requires-2
 next-end-requires-2 c κs = search needs
 
--- src/off.rt:105:9
 returns-4 : tie.Need-returns-4
 returns-4 c = none-more (some-end (c .before .before)) (c .before .next-end2 .ensures) (c .if4 .taken)
 
--- src/off.rt:107:8
 first-start-requires : tie.Need-first-start-requires
 first-start-requires c κs = search needs
 
--- src/off.rt:108:9
 returns-5 : tie.Need-returns-5
 returns-5 c = none-start (some-end (c .before .before .before .before) .some-edge) (c .before .first-start .ensures) (c .if5 .taken)
 
--- src/off.rt:110:13
 mul-a : tie.Need-mul-a
 mul-a c = search needs
 
--- src/off.rt:110:13
 array-copy-out-a : tie.Need-array-copy-out-a
 array-copy-out-a c = search needs
 
--- src/off.rt:111:13
 mul-b : tie.Need-mul-b
 mul-b c = search needs
 
--- src/off.rt:111:13
 array-copy-out-b : tie.Need-array-copy-out-b
 array-copy-out-b c = search needs
 
--- src/off.rt:113:9
 returns-6 : tie.Need-returns-6
 returns-6 c = none-weight (one-each (c .before) .some-end) (c .if6 .taken)
 
--- src/off.rt:115:8
 first-pair-requires : tie.Need-first-pair-requires
 first-pair-requires c κs = search needs
 
--- src/off.rt:116:9
 returns-7 : tie.Need-returns-7
 returns-7 c = none-new (one-each (c .before .before .before) .some-end) (c .before .first-pair .ensures) (c .if7 .taken)
 
--- src/off.rt:84:1
 returns-8 : tie.Need-returns-8
 returns-8 c = loose-there (one-each (c .before .before .before)) (c .before .before .if6 .left) (c .before .first-pair .ensures) (omega (arith, c .if7 .left))
 

@@ -18,54 +18,43 @@ Inv-loop n c orders k₀ k = (k ≤ n) × ((j : ℕ) → j < k → Names c (getD
 abbrev μ-loop : tie.MeasureT-loop
 μ-loop n c orders k₀ k = n - k
 
--- src/off.rt:167:5
 loop-holds : tie.Need-loop-holds Inv-loop μ-loop
 loop-holds c = (omega arith, below-none _)
 
--- src/off.rt:168:17
 mul-o : tie.Need-mul-o Inv-loop μ-loop
 mul-o c = search needs
 
--- src/off.rt:168:17
 array-copy-out-o : tie.Need-array-copy-out-o Inv-loop μ-loop
 array-copy-out-o c = search needs
 
--- src/off.rt:169:17
 cast-if1 : tie.Need-cast-if1 Inv-loop μ-loop
 cast-if1 c = search needs
 
--- src/off.rt:170:13
 returns : tie.Need-returns Inv-loop μ-loop
 returns c =
     let l = c .before .before .before .before in
     (λ e. named-not (l .before .args .c) (l .before .args .n) (l .before .args .t1) (search needs) (l .loop .k) (search needs) (λ q. omega (arith, q .0, c .if1 .taken)), λ e. absurd (true-false e))
 
--- src/off.rt:172:17
 cast-if2 : tie.Need-cast-if2 Inv-loop μ-loop
 cast-if2 c = search needs
 
--- src/off.rt:173:13
 returns-2 : tie.Need-returns-2 Inv-loop μ-loop
 returns-2 c =
     let l = c .before .before .before .before .before .before in
     (λ e. named-not (l .before .args .c) (l .before .args .n) (l .before .args .t1) (search needs) (l .loop .k) (search needs) (λ q. omega (arith, q .1, c .if2 .taken)), λ e. absurd (true-false e))
 
--- src/off.rt:175:9
 add-k : tie.Need-add-k Inv-loop μ-loop
 add-k c = search needs
 
--- src/off.rt:167:5
 loop-less : tie.Need-loop-less Inv-loop μ-loop
 loop-less c = search needs
 
--- src/off.rt:167:5
 loop-again : tie.Need-loop-again Inv-loop μ-loop
 loop-again c =
     let e = c .before .before in
     let l = e .before .before .before .before in
     (search needs, below-more _ _ (l .loop .inv .1) (omega (arith, e .if1 .left), omega (arith, c .if2 .left)))
 
--- src/off.rt:162:1
 returns-3 : tie.Need-returns-3 Inv-loop μ-loop
 returns-3 c =
     let l = c .before in

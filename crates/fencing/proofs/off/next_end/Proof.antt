@@ -17,38 +17,30 @@ Inv-loop n v lo edges i₀ i = (lo ≤ i) × (i ≤ n) × Passed (λ j. (getD (t
 abbrev μ-loop : tie.MeasureT-loop
 μ-loop n v lo edges i₀ i = n - i
 
--- src/off.rt:39:5
 loop-holds : tie.Need-loop-holds Inv-loop μ-loop
 loop-holds c = (omega arith, omega arith, passed-none _ _)
 
--- src/off.rt:40:17
 mul-e : tie.Need-mul-e Inv-loop μ-loop
 mul-e c = search needs
 
--- src/off.rt:40:17
 array-copy-out-e : tie.Need-array-copy-out-e Inv-loop μ-loop
 array-copy-out-e c = search needs
 
--- src/off.rt:41:12
 cast-if1 : tie.Need-cast-if1 Inv-loop μ-loop
 cast-if1 c = search needs
 
--- src/off.rt:42:13
 returns : tie.Need-returns Inv-loop μ-loop
 returns c =
     let l = c .before .before .before .before in
     first-here _ _ _ _ (l .loop .inv .0) (search needs) (l .loop .inv .2)
     (ap (λ (e : Edge). e .to) (getD-take (l .before .args .n) (l .before .args .t1) (l .loop .i) no-edge (search needs)) ∙ c .if1 .taken)
 
--- src/off.rt:44:9
 add-i : tie.Need-add-i Inv-loop μ-loop
 add-i c = search needs
 
--- src/off.rt:39:5
 loop-less : tie.Need-loop-less Inv-loop μ-loop
 loop-less c = search needs
 
--- src/off.rt:39:5
 loop-again : tie.Need-loop-again Inv-loop μ-loop
 loop-again c =
     let l = c .before .before .before .before in (
@@ -58,7 +50,6 @@ loop-again c =
           (λ p. c .if1 .left (sym (ap (λ (e : Edge). e .to) (getD-take (l .before .args .n) (l .before .args .t1) (l .loop .i) no-edge (search needs))) ∙ p)),
     )
 
--- src/off.rt:34:1
 returns-2 : tie.Need-returns-2 Inv-loop μ-loop
 returns-2 c = first-none _ _ _ _ (omega arith) (omega arith) (omega arith) (c .before .loop .inv .2)
 

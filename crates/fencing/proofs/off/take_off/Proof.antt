@@ -13,15 +13,12 @@ Inv-loop c h₀ weight₀ h weight = (c ≤ h .«node_count») × Going h₀ h w
 abbrev μ-loop : tie.MeasureT-loop
 μ-loop c h₀ weight₀ h weight = h .«node_count»
 
--- src/off.rt:149:5
 loop-holds : tie.Need-loop-holds Inv-loop μ-loop
 loop-holds c = (c .pre .2, going-start (c .args .g) (c .pre .0) (c .pre .1))
 
--- src/off.rt:150:13
 loose-requires : tie.Need-loose-requires Inv-loop μ-loop
 loose-requires c κs = search needs
 
--- src/off.rt:152:13
 returns : tie.Need-returns Inv-loop μ-loop
 returns c =
     let l = c .before .before .before in
@@ -30,31 +27,24 @@ returns c =
       ((inv .1 .kept, inv .1 .sized, inv .1 .roomy), (inv .0, inv .1 .paired)),
     )
 
--- src/off.rt:154:17
 mul-e : tie.Need-mul-e Inv-loop μ-loop
 mul-e c = search needs
 
--- src/off.rt:154:17
 element-copy-out-e : tie.Need-element-copy-out-e Inv-loop μ-loop
 element-copy-out-e c = search needs
 
--- src/off.rt:155:19
 cast-weight : tie.Need-cast-weight Inv-loop μ-loop
 cast-weight c = search needs
 
--- src/off.rt:155:9
 add-weight : tie.Need-add-weight Inv-loop μ-loop
 add-weight c = search needs
 
--- src/off.rt:156:13
 joined-requires : tie.Need-joined-requires Inv-loop μ-loop
 joined-requires c κs = search needs
 
--- src/off.rt:149:5
 loop-less : tie.Need-loop-less Inv-loop μ-loop
 loop-less c = search needs
 
--- src/off.rt:149:5
 loop-again : tie.Need-loop-again Inv-loop μ-loop
 loop-again c =
     let e = c .before .before .before in
@@ -67,7 +57,6 @@ loop-again c =
           (lo .loose .ensures),
     )
 
--- src/off.rt:141:1
 returns-2 : tie.Need-returns-2 Inv-loop μ-loop
 returns-2 c =
     let l = c .before in

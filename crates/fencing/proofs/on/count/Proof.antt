@@ -19,27 +19,21 @@ Inv-loop flags n₀ i₀ n i = (i ≤ 192) × (n ≤ i) × (n + length (rising i
 abbrev μ-loop : tie.MeasureT-loop
 μ-loop flags n₀ i₀ n i = 192 - i
 
--- src/lib.rt:51:5
 loop-holds : tie.Need-loop-holds Inv-loop μ-loop
 loop-holds c = search needs
 
--- src/lib.rt:52:12
 array-read-if1 : tie.Need-array-read-if1 Inv-loop μ-loop
 array-read-if1 c = search needs
 
--- src/lib.rt:53:13
 add-n : tie.Need-add-n Inv-loop μ-loop
 add-n c = search needs
 
--- src/lib.rt:51:9
 add-i : tie.Need-add-i Inv-loop μ-loop
 add-i c = search needs
 
--- src/lib.rt:51:5
 loop-less : tie.Need-loop-less Inv-loop μ-loop
 loop-less c = search needs
 
--- src/lib.rt:51:5
 loop-again : tie.Need-loop-again Inv-loop μ-loop
 loop-again c =
     let flags = c .before .before .before .args .t1 in
@@ -51,7 +45,6 @@ loop-again c =
     (λ w. (search needs, omega (arith, w .1), omega (arith, w .1, ap length (rising-no flags i long (w .0 .left)))))
     (c .if1 .came)
 
--- src/lib.rt:46:1
 returns : tie.Need-returns Inv-loop μ-loop
 returns c =
     let flags = c .before .before .args .t1 in

@@ -19,15 +19,12 @@ Inv-loop flags n r₀ i₀ r i = (i ≤ n) × Along flags r₀ r i
 abbrev μ-loop : tie.MeasureT-loop
 μ-loop flags n r₀ i₀ r i = n - i
 
--- src/lib.rt:70:5
 loop-holds : tie.Need-loop-holds Inv-loop μ-loop
 loop-holds c = (omega arith, along-start (c .args .t2) (c .args .g) (c .pre .0 .1))
 
--- src/lib.rt:71:12
 array-read-if1 : tie.Need-array-read-if1 Inv-loop μ-loop
 array-read-if1 c = search needs
 
--- src/lib.rt:72:13
 with-fence-requires : tie.Need-with-fence-requires Inv-loop μ-loop
 with-fence-requires c κs =
     let s = c .before .before .before in
@@ -35,15 +32,12 @@ with-fence-requires c κs =
     let room = along-room (s .args .t2) (s .args .g) (at .r) (at .i) (search needs) (at .inv .1) (c .if1 .taken) (s .pre .1 .1 .0) (s .pre .1 .1 .1) in
     (at .inv .1 .roomy, (omega (arith, at .inv .1 .more), room .0, room .1))
 
--- src/lib.rt:70:9
 add-i : tie.Need-add-i Inv-loop μ-loop
 add-i c = search needs
 
--- src/lib.rt:70:5
 loop-less : tie.Need-loop-less Inv-loop μ-loop
 loop-less c = search needs
 
--- src/lib.rt:70:5
 loop-again : tie.Need-loop-again Inv-loop μ-loop
 loop-again c =
     let s = c .before .before .before in
@@ -61,7 +55,6 @@ loop-again c =
     ))
     (c .if1 .came)
 
--- src/lib.rt:60:1
 returns : tie.Need-returns Inv-loop μ-loop
 returns c =
     let s = c .before .before in

@@ -5,55 +5,42 @@ use borrow.Author.Needs.{needs}
 use Rattle.fencing.proofs.on.with_fence.Statement.{statement}
 use Rattle.fencing.proofs.on.with_fence.Tie as tie
 
--- src/lib.rt:25:13
 mul-e : tie.Need-mul-e
 mul-e c = search needs
 
--- src/lib.rt:25:13
 element-copy-out-e : tie.Need-element-copy-out-e
 element-copy-out-e c = search needs
 
--- src/lib.rt:27:5
 mul-t8 : tie.Need-mul-t8
 mul-t8 c = search needs
 
--- src/lib.rt:27:5
 element-set-from-r : tie.Need-element-set-from-r
 element-set-from-r c = search needs
 
--- src/lib.rt:32:13
 cast-t17 : tie.Need-cast-t17
 cast-t17 c = search needs
 
--- src/lib.rt:30:5
 mul-r : tie.Need-mul-r
 mul-r c = search needs
 
--- src/lib.rt:30:5
 element-set-from-r-2 : tie.Need-element-set-from-r-2
 element-set-from-r-2 c = search needs
 
--- src/lib.rt:36:15
 cast-t17-2 : tie.Need-cast-t17-2
 cast-t17-2 c = search needs
 
--- src/lib.rt:35:5
 mul-t8-2 : tie.Need-mul-t8-2
 mul-t8-2 c = search needs
 
--- src/lib.rt:35:5
 element-set-from-r-3 : tie.Need-element-set-from-r-3
 element-set-from-r-3 c = search needs
 
--- src/lib.rt:40:20
 add-r : tie.Need-add-r
 add-r c = search needs
 
--- src/lib.rt:41:20
 add-r-2 : tie.Need-add-r-2
 add-r-2 c = search needs
 
--- src/lib.rt:16:1
 returns : tie.Need-returns
 returns c =
     let s = c .before in (

@@ -15,34 +15,27 @@ Inv-loop nodes words n y w j₀ j = j ≤ n
 abbrev μ-loop : tie.MeasureT-loop
 μ-loop nodes words n y w j₀ j = n - j
 
--- src/pairs.rt:28:5
 loop-holds : tie.Need-loop-holds Inv-loop μ-loop
 loop-holds c = search needs
 
--- src/pairs.rt:29:12
 mul-if1 : tie.Need-mul-if1 Inv-loop μ-loop
 mul-if1 c = search needs
 
 element-copy-out-if1 : tie.Need-element-copy-out-if1 Inv-loop μ-loop
 element-copy-out-if1 c = search needs
 
--- src/pairs.rt:30:37
 mul-word : tie.Need-mul-word Inv-loop μ-loop
 mul-word c = search needs
 
--- src/pairs.rt:30:37
 element-copy-out-word : tie.Need-element-copy-out-word Inv-loop μ-loop
 element-copy-out-word c = search needs
 
--- src/pairs.rt:30:32
 word-requires : tie.Need-word-requires Inv-loop μ-loop
 word-requires c κs = search needs
 
--- src/pairs.rt:30:17
 without-requires : tie.Need-without-requires Inv-loop μ-loop
 without-requires c κs = search needs
 
--- src/pairs.rt:32:17
 returns : tie.Need-returns Inv-loop μ-loop
 returns c =
     let wo = c .before in
@@ -51,19 +44,15 @@ returns c =
     let j = n .before .loop .j in
     λ e. (j, n .loop-test .taken, wo .before .before .before .if1 .taken, none-left (getD (st .args .words .now) j 0) (st .args .w) (wo .without .result) (wo .without .ensures ∙ ap (λ (x : ℕ). less x (st .args .w)) (wo .before .word .ensures)) (c .if2 .taken))
 
--- src/pairs.rt:35:9
 add-j : tie.Need-add-j Inv-loop μ-loop
 add-j c = search needs
 
--- src/pairs.rt:28:5
 loop-less : tie.Need-loop-less Inv-loop μ-loop
 loop-less c = search needs
 
--- src/pairs.rt:28:5
 loop-again : tie.Need-loop-again Inv-loop μ-loop
 loop-again c = search needs
 
--- src/pairs.rt:23:1
 returns-2 : tie.Need-returns-2 Inv-loop μ-loop
 returns-2 c = λ e. absurd (true-false (sym e))
 

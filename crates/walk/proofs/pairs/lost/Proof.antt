@@ -6,27 +6,21 @@ use borrow.Author.Needs.{needs}
 use Rattle.walk.proofs.pairs.lost.Statement.{statement}
 use Rattle.walk.proofs.pairs.lost.Tie as tie
 
--- src/pairs.rt:109:9
 with-requires : tie.Need-with-requires
 with-requires c κs = search needs
 
--- src/pairs.rt:110:9
 marked-requires : tie.Need-marked-requires
 marked-requires c κs = search needs
 
--- src/pairs.rt:104:9
 hopeful-requires : tie.Need-hopeful-requires
 hopeful-requires c κs = search needs
 
--- src/pairs.rt:113:9
 returns : tie.Need-returns
 returns c = λ e. absurd (true-false (sym e))
 
--- src/pairs.rt:115:6
 some-way-requires : tie.Need-some-way-requires
 some-way-requires c κs = search needs
 
--- src/pairs.rt:90:1
 returns-2 : tie.Need-returns-2
 returns-2 c = λ e. c .some-way .ensures (not-true _ e)
 

@@ -37,121 +37,94 @@ module _ (c : tie.After-lowest Inv-loop2 μ-loop2 Inv-loop μ-loop) where
   low : Lowest (turn .before .before .word .result) (turn .loop2 .tried) (c .lowest .result)
   low = lowest-left _ _ (c .before .before .without .result) _ (c .before .before .without .ensures) (c .before .before .without .ok) (c .before .if1 .left) (c .lowest .ensures)
 
--- src/pairs.rt:54:5
 array-write-nodes : tie.Need-array-write-nodes Inv-loop2 μ-loop2 Inv-loop μ-loop
 array-write-nodes c = search needs
 
--- src/pairs.rt:55:5
 array-write-words : tie.Need-array-write-words Inv-loop2 μ-loop2 Inv-loop μ-loop
 array-write-words c = search needs
 
--- src/pairs.rt:58:5
 loop-holds : tie.Need-loop-holds Inv-loop2 μ-loop2 Inv-loop μ-loop
 loop-holds c = sifted-start _ _ _ _ _ _ _ _ _ _ (replicate most-pairs 0) (replicate most-pairs 0) refl refl refl refl refl refl (c .pre .0)
 
--- src/pairs.rt:59:30
 mul-word : tie.Need-mul-word Inv-loop2 μ-loop2 Inv-loop μ-loop
 mul-word c = search needs
 
--- src/pairs.rt:59:30
 array-read-word : tie.Need-array-read-word Inv-loop2 μ-loop2 Inv-loop μ-loop
 array-read-word c = omega (arith, c .loop-test .taken, c .before .loop .inv .few)
 
--- src/pairs.rt:59:25
 mul-word-2 : tie.Need-mul-word-2 Inv-loop2 μ-loop2 Inv-loop μ-loop
 mul-word-2 c = let l = c .before .loop in omega (arith, l .inv .low (l .i) (c .loop-test .taken))
 
--- src/pairs.rt:59:25
 element-copy-out-word : tie.Need-element-copy-out-word Inv-loop2 μ-loop2 Inv-loop μ-loop
 element-copy-out-word c = let l = c .before .loop in omega (arith, l .inv .low (l .i) (c .loop-test .taken))
 
--- src/pairs.rt:59:13
 word-requires : tie.Need-word-requires Inv-loop2 μ-loop2 Inv-loop μ-loop
 word-requires c κs = search needs
 
--- src/pairs.rt:60:27
 mul-word-3 : tie.Need-mul-word-3 Inv-loop2 μ-loop2 Inv-loop μ-loop
 mul-word-3 c = search needs
 
--- src/pairs.rt:60:27
 array-read-word-2 : tie.Need-array-read-word-2 Inv-loop2 μ-loop2 Inv-loop μ-loop
 array-read-word-2 c = let n = c .before .before in omega (arith, n .loop-test .taken, n .before .loop .inv .few)
 
--- src/pairs.rt:60:13
 word-requires-2 : tie.Need-word-requires-2 Inv-loop2 μ-loop2 Inv-loop μ-loop
 word-requires-2 c κs = search needs
 
--- src/pairs.rt:62:9
 loop2-holds : tie.Need-loop2-holds Inv-loop2 μ-loop2 Inv-loop μ-loop
 loop2-holds c =
     let n = c .before .before .before in
     (search needs, record { within = n .loop-test .taken; onto = c .before .word .ensures; ordered = c .word2 .ensures; sifted = n .before .loop .inv })
 
--- src/pairs.rt:63:17
 without-requires : tie.Need-without-requires Inv-loop2 μ-loop2 Inv-loop μ-loop
 without-requires c κs = search needs
 
--- src/pairs.rt:67:17
 lowest-requires : tie.Need-lowest-requires Inv-loop2 μ-loop2 Inv-loop μ-loop
 lowest-requires c κs = search needs
 
--- src/pairs.rt:68:17
 marked-requires : tie.Need-marked-requires Inv-loop2 μ-loop2 Inv-loop μ-loop
 marked-requires c κs = low c .node
 
--- src/pairs.rt:69:17
 has-requires : tie.Need-has-requires Inv-loop2 μ-loop2 Inv-loop μ-loop
 has-requires c κs = search needs
 
--- src/pairs.rt:71:21
 returns : tie.Need-returns Inv-loop2 μ-loop2 Inv-loop μ-loop
 returns c = λ e. absurd (true-false e)
 
--- src/pairs.rt:73:21
 known-requires : tie.Need-known-requires Inv-loop2 μ-loop2 Inv-loop μ-loop
 known-requires c κs = turn (c .before .before .before .before .before .before) .loop2 .inv .1 .sifted .few
 
--- src/pairs.rt:75:25
 returns-2 : tie.Need-returns-2 Inv-loop2 μ-loop2 Inv-loop μ-loop
 returns-2 c = λ e. absurd (true-false e)
 
--- src/pairs.rt:77:21
 mul-nodes : tie.Need-mul-nodes Inv-loop2 μ-loop2 Inv-loop μ-loop
 mul-nodes c = search needs
 
--- src/pairs.rt:77:21
 array-write-nodes-2 : tie.Need-array-write-nodes-2 Inv-loop2 μ-loop2 Inv-loop μ-loop
 array-write-nodes-2 c =
     let lo = c .before .before .before .before .before .before .before .before .before in
     let g = turn lo .loop2 .inv .1 in
     omega (arith, g .sifted .few, c .if5 .left)
 
--- src/pairs.rt:78:21
 mul-words : tie.Need-mul-words Inv-loop2 μ-loop2 Inv-loop μ-loop
 mul-words c = search needs
 
--- src/pairs.rt:78:21
 array-write-words-2 : tie.Need-array-write-words-2 Inv-loop2 μ-loop2 Inv-loop μ-loop
 array-write-words-2 c =
     let lo = c .before .before .before .before .before .before .before .before .before in
     let g = turn lo .loop2 .inv .1 in
     omega (arith, g .sifted .few, c .if5 .left)
 
--- src/pairs.rt:79:21
 add-n : tie.Need-add-n Inv-loop2 μ-loop2 Inv-loop μ-loop
 add-n c = search needs
 
--- src/pairs.rt:82:13
 with-requires : tie.Need-with-requires Inv-loop2 μ-loop2 Inv-loop μ-loop
 with-requires c κs = low (c .before .before .before) .node
 
--- src/pairs.rt:62:9
 loop2-less : tie.Need-loop2-less Inv-loop2 μ-loop2 Inv-loop μ-loop
 loop2-less c =
     let lo = c .before .before .before .before in
     omega (arith, done-count _ (turn lo .loop2 .tried) (lo .lowest .result) (c .with .result) (turn lo .loop2 .inv .0) (low lo) (c .with .ensures))
 
--- src/pairs.rt:62:9
 loop2-again : tie.Need-loop2-again Inv-loop2 μ-loop2 Inv-loop μ-loop
 loop2-again c =
     let j = c .before in
@@ -166,23 +139,19 @@ loop2-again c =
           (j .if2 .came),
     )
 
--- src/pairs.rt:84:9
 add-i : tie.Need-add-i Inv-loop2 μ-loop2 Inv-loop μ-loop
 add-i c =
     let n = c .before .before .before .before .before .before in
     search (needs, n .loop-test .taken, n .before .loop .inv .few)
 
--- src/pairs.rt:58:5
 loop-less : tie.Need-loop-less Inv-loop2 μ-loop2 Inv-loop μ-loop
 loop-less c =
     let n = c .before .before .before .before .before .before in
     omega (arith, n .loop-test .taken, n .before .loop .inv .few)
 
--- src/pairs.rt:58:5
 loop-again : tie.Need-loop-again Inv-loop2 μ-loop2 Inv-loop μ-loop
 loop-again c = let l = c .before .before in going-end _ _ _ _ _ _ _ _ _ _ _ _ _ (l .loop2 .inv .1) (none-left _ _ (c .before .without .result) (c .before .without .ensures) (c .if1 .taken))
 
--- src/pairs.rt:41:1
 returns-3 : tie.Need-returns-3 Inv-loop2 μ-loop2 Inv-loop μ-loop
 returns-3 c = λ e. sifted-all _ _ _ _ _ _ _ _ _ _ (c .before .loop .inv) (omega (arith, c .loop-test .left))
 

@@ -5,27 +5,21 @@ use borrow.Author.Needs.{needs}
 use Rattle.writing.proofs.put.put_edge.Statement.{statement}
 use Rattle.writing.proofs.put.put_edge.Tie as tie
 
--- src/put.rt:51:9
 put-two-requires : tie.Need-put-two-requires
 put-two-requires c κs = search needs
 
--- src/put.rt:52:9
 put-word-requires : tie.Need-put-word-requires
 put-word-requires c κs = search needs
 
--- src/put.rt:53:9
 put-word-requires-2 : tie.Need-put-word-requires-2
 put-word-requires-2 c κs = search needs
 
--- src/put.rt:54:5
 put-word-requires-3 : tie.Need-put-word-requires-3
 put-word-requires-3 c κs = search needs
 
--- src/put.rt:46:1
 same-length : tie.Need-same-length
 same-length c = search needs
 
--- src/put.rt:46:1
 returns : tie.Need-returns
 returns c =
     let d = c .before .before in

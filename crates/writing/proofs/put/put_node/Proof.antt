@@ -7,39 +7,30 @@ use borrow.Author.Needs.{needs}
 use Rattle.writing.proofs.put.put_node.Statement.{statement}
 use Rattle.writing.proofs.put.put_node.Tie as tie
 
--- src/put.rt:38:9
 put-two-requires : tie.Need-put-two-requires
 put-two-requires c κs = search needs
 
--- src/put.rt:40:22
 enum-known-l : tie.Need-enum-known-l
 enum-known-l c = search needs
 
--- src/put.rt:40:28
 put-two-requires-2 : tie.Need-put-two-requires-2
 put-two-requires-2 c κs = search needs
 
--- src/put.rt:41:21
 enum-known-l-2 : tie.Need-enum-known-l-2
 enum-known-l-2 c = search needs
 
--- src/put.rt:41:27
 put-two-requires-3 : tie.Need-put-two-requires-3
 put-two-requires-3 c κs = search needs
 
--- src/put.rt:42:33
 enum-told : tie.Need-enum-told
 enum-told c = search needs
 
--- src/put.rt:42:25
 put-two-requires-4 : tie.Need-put-two-requires-4
 put-two-requires-4 c κs = search needs
 
--- src/put.rt:33:1
 same-length : tie.Need-same-length
 same-length c = search needs
 
--- src/put.rt:33:1
 returns : tie.Need-returns
 returns c =
     let p = c .before .before in
@@ -49,11 +40,9 @@ returns c =
       written-as (ap node-bytes (l .l .given .1)) (written-then (m .put-two .ensures .1) (p .put-two2 .ensures .1)),
     )
 
--- src/put.rt:33:1
 same-length-2 : tie.Need-same-length-2
 same-length-2 c = search needs
 
--- src/put.rt:33:1
 returns-2 : tie.Need-returns-2
 returns-2 c =
     let p = c .before .before in
@@ -63,11 +52,9 @@ returns-2 c =
       written-as (ap node-bytes (l .l2 .given .1)) (written-then (m .put-two .ensures .1) (p .put-two3 .ensures .1)),
     )
 
--- src/put.rt:33:1
 same-length-3 : tie.Need-same-length-3
 same-length-3 c = search needs
 
--- src/put.rt:33:1
 returns-3 : tie.Need-returns-3
 returns-3 c =
     let p = c .before .before in

@@ -5,23 +5,18 @@ use borrow.Author.Needs.{needs}
 use Rattle.writing.proofs.put.put_order.Statement.{statement}
 use Rattle.writing.proofs.put.put_order.Tie as tie
 
--- src/put.rt:89:9
 put-two-requires : tie.Need-put-two-requires
 put-two-requires c κs = search needs
 
--- src/put.rt:90:9
 put-word-requires : tie.Need-put-word-requires
 put-word-requires c κs = search needs
 
--- src/put.rt:91:5
 put-word-requires-2 : tie.Need-put-word-requires-2
 put-word-requires-2 c κs = search needs
 
--- src/put.rt:84:1
 same-length : tie.Need-same-length
 same-length c = search needs
 
--- src/put.rt:84:1
 returns : tie.Need-returns
 returns c =
     let b = c .before .before in

@@ -5,23 +5,18 @@ use borrow.Author.Needs.{needs}
 use Rattle.writing.proofs.put.put_rule.Statement.{statement}
 use Rattle.writing.proofs.put.put_rule.Tie as tie
 
--- src/put.rt:79:9
 put-two-requires : tie.Need-put-two-requires
 put-two-requires c κs = search needs
 
--- src/put.rt:80:9
 put-side-requires : tie.Need-put-side-requires
 put-side-requires c κs = search needs
 
--- src/put.rt:81:5
 put-side-requires-2 : tie.Need-put-side-requires-2
 put-side-requires-2 c κs = search needs
 
--- src/put.rt:72:1
 same-length : tie.Need-same-length
 same-length c = search needs
 
--- src/put.rt:72:1
 returns : tie.Need-returns
 returns c =
     let b = c .before .before in

@@ -8,57 +8,44 @@ use borrow.Author.Needs.{needs}
 use Rattle.writing.proofs.put.put_side.Statement.{statement}
 use Rattle.writing.proofs.put.put_side.Tie as tie
 
--- src/put.rt:63:30
 enum-told : tie.Need-enum-told
 enum-told c = search needs
 
--- src/put.rt:63:22
 put-two-requires : tie.Need-put-two-requires
 put-two-requires c κs = search needs
 
--- src/put.rt:64:18
 enum-known-s : tie.Need-enum-known-s
 enum-known-s c = search needs
 
--- src/put.rt:65:26
 enum-known-l : tie.Need-enum-known-l
 enum-known-l c = search needs
 
--- src/put.rt:65:32
 put-two-requires-2 : tie.Need-put-two-requires-2
 put-two-requires-2 c κs = search needs
 
--- src/put.rt:66:25
 enum-known-l-2 : tie.Need-enum-known-l-2
 enum-known-l-2 c = search needs
 
--- src/put.rt:66:31
 put-two-requires-3 : tie.Need-put-two-requires-3
 put-two-requires-3 c κs = search needs
 
--- src/put.rt:67:37
 enum-told-2 : tie.Need-enum-told-2
 enum-told-2 c = search needs
 
--- src/put.rt:67:29
 put-two-requires-4 : tie.Need-put-two-requires-4
 put-two-requires-4 c κs = search needs
 
--- src/put.rt:57:1
 same-length : tie.Need-same-length
 same-length c = search needs
 
--- src/put.rt:57:1
 returns : tie.Need-returns
 returns c =
     let p = c .before .before in
     (p .put-two .ensures .0, written-as (ap side-bytes (p .before .before .enum-told .given .1)) (p .put-two .ensures .1))
 
--- src/put.rt:57:1
 same-length-2 : tie.Need-same-length-2
 same-length-2 c = search needs
 
--- src/put.rt:57:1
 returns-2 : tie.Need-returns-2
 returns-2 c =
     let p = c .before .before in
@@ -66,11 +53,9 @@ returns-2 c =
     let s = l .before .before .before in
     (p .put-two2 .ensures .0, written-as (ap side-bytes (s .s .given .1) ∙ ap (λ (x : Label). side-bytes (Is x)) (l .l .given .1)) (p .put-two2 .ensures .1))
 
--- src/put.rt:57:1
 same-length-3 : tie.Need-same-length-3
 same-length-3 c = search needs
 
--- src/put.rt:57:1
 returns-3 : tie.Need-returns-3
 returns-3 c =
     let p = c .before .before in
@@ -78,11 +63,9 @@ returns-3 c =
     let s = l .before .before .before in
     (p .put-two3 .ensures .0, written-as (ap side-bytes (s .s .given .1) ∙ ap (λ (x : Label). side-bytes (Is x)) (l .l2 .given .1)) (p .put-two3 .ensures .1))
 
--- src/put.rt:57:1
 same-length-4 : tie.Need-same-length-4
 same-length-4 c = search needs
 
--- src/put.rt:57:1
 returns-4 : tie.Need-returns-4
 returns-4 c =
     let p = c .before .before in

@@ -7,27 +7,21 @@ use borrow.Author.Needs.{needs}
 use Rattle.writing.proofs.put.put_two.Statement.{statement}
 use Rattle.writing.proofs.put.put_two.Tie as tie
 
--- src/put.rt:19:5
 slice-write-out : tie.Need-slice-write-out
 slice-write-out c = search needs
 
--- src/put.rt:20:9
 add-out : tie.Need-add-out
 add-out c = search needs
 
--- src/put.rt:20:5
 slice-write-out-2 : tie.Need-slice-write-out-2
 slice-write-out-2 c = simp length-set (omega arith)
 
--- src/put.rt:21:5
 add-result : tie.Need-add-result
 add-result c = search needs
 
--- src/put.rt:14:1
 same-length : tie.Need-same-length
 same-length c = search needs
 
--- src/put.rt:14:1
 returns : tie.Need-returns
 returns c = (refl, written-two _ _ _ _ (search needs))
 
