@@ -18,7 +18,6 @@ use Rattle.graph.specs.Strip.{AllName, StripTo, Stripped, done, take-off}
 use Rattle.graph.specs.Written.{fenced, written}
 use Rattle.request.specs.File.{Request}
 use Rattle.request.specs.Proper.{Addressed, Proper}
-use Rattle.walk.specs.Search.{ends}
 use Rattle.graph.proofs.Joined.{joined-edges, stripped-edges, stripped-sound, weight-from}
 use Rattle.graph.proofs.Members.{at-mem}
 use Rattle.graph.proofs.Runs.{written-nodes, written-sound}

@@ -12,9 +12,9 @@ use Rattle.flags.proofs.Pair.{either-cases}
 use Rattle.flags.proofs.Put.{put-same, put-other}
 use Rattle.graph.specs.Held.{Absent, Ordered, by-rule, by-way}
 use Rattle.graph.proofs.Ordered.{LastLink, last-link}
-use Rattle.walk.specs.Search.{mark}
+use Rattle.hope.specs.Rest.{mark}
 use Rattle.words.specs.Words.{listed}
-use Rattle.walk.proofs.Rest.{mark-same, mark-more, mark-keeps, mark-new}
+use Rattle.hope.proofs.Rest.{mark-same, mark-more, mark-keeps, mark-new}
 
 -- ---- what is ordered after the first node once one more is on the route
 

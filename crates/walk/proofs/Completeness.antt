@@ -8,7 +8,7 @@ use Prim.Native.Nat.{ℕ}
 use Rattle.flags.specs.Flag.{flag, put}
 use Rattle.graph.specs.Held.{Absent, Follows, NoneTwice, Ordered}
 use Rattle.graph.proofs.Walked.{Apart, apart-cons, each-split}
-use Rattle.walk.specs.Search.{Next, ends, goes, mark}
+use Rattle.hope.specs.Rest.{Next, ends, goes, mark}
 use Rattle.walk.proofs.Carried.{Carried, Lists, carried-on}
 
 absent-last : (x : ℕ) (rest : List ℕ) (b : ℕ) → Absent x (rest ++ b ∷ []) → x ≢ b

@@ -16,7 +16,8 @@ use Rattle.graph.specs.Limits.{most-nodes}
 use Rattle.graph.proofs.Walked.{apart-cons, apart-uncons, apart-nil, each-split}
 use Rattle.walk.specs.declared.Way.{Way}
 use Rattle.words.specs.declared.Words.{Words}
-use Rattle.walk.specs.Search.{Next, Answer, none, found, Earliest}
+use Rattle.hope.specs.Rest.{Next}
+use Rattle.walk.specs.Search.{Answer, none, found, Earliest}
 use Rattle.words.specs.Words.{WordsOf}
 use Rattle.walk.proofs.Carried.{Lists, carried-start}
 use Rattle.walk.proofs.Completeness.{found-or-ordered}

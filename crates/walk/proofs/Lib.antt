@@ -1,13 +1,7 @@
 -- The mathematics of the walk: the search, step by step; the search and the routes of a graph.
 
-pub mod Rest
-pub mod Left
 pub mod Visited
 pub mod Tried
-pub mod Fallen
-pub mod Hope
-pub mod Reached
-pub mod Sifted
 pub mod Carried
 pub mod Soundness
 pub mod Completeness

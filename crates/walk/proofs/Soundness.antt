@@ -7,7 +7,7 @@ use Rattle.flags.specs.Flag.{flag}
 use Rattle.flags.proofs.Digit.{true-false}
 use Rattle.graph.specs.Held.{Absent, Follows, NoneTwice, Ordered}
 use Rattle.graph.proofs.Walked.{Apart, apart-uncons}
-use Rattle.walk.specs.Search.{Rest, ends, goes}
+use Rattle.hope.specs.Rest.{Rest, ends, goes}
 use Rattle.walk.proofs.Carried.{Carried, Lists, carried-on}
 
 module _ (succ fits : List ℕ) (a goal : ℕ) where

@@ -13,10 +13,11 @@ use Rattle.flags.proofs.Digit.{true-false}
 use Rattle.flags.proofs.Put.{put-cases, put-keeps}
 use Rattle.graph.specs.Cut.{First}
 use Rattle.walk.specs.declared.Way.{Way}
-use Rattle.walk.specs.Search.{Rest, Next, Answer, none, found}
+use Rattle.hope.specs.Rest.{Rest, Next}
+use Rattle.walk.specs.Search.{Answer, none, found}
 use Rattle.words.specs.Words.{listed}
-use Rattle.walk.proofs.Left.{Lowest}
-use Rattle.walk.proofs.Rest.{unset, rest-new, rest-first}
+use Rattle.hope.proofs.Left.{Lowest}
+use Rattle.hope.proofs.Rest.{unset, rest-new, rest-first}
 
 module _ (succ fits : List ℕ) (goal : ℕ) where
   -- the nodes on the route are tried, and no way goes on over a node that is

@@ -14,7 +14,8 @@ use Rattle.flags.proofs.Digit.{true-false}
 use Rattle.flags.proofs.Put.{put-count}
 use Rattle.graph.specs.Cut.{First}
 use Rattle.walk.specs.declared.Way.{Way}
-use Rattle.walk.specs.Search.{Rest, ends, goes, Next, Answer, none, found, Earliest, mark}
+use Rattle.hope.specs.Rest.{Rest, ends, goes, Next, mark}
+use Rattle.walk.specs.Search.{Answer, none, found, Earliest}
 
 -- one node more at the end of the route
 pub longer : (nodes : List ℕ) (n m v : ℕ) → n ≡ m → m < length nodes → take (n + 1) (set nodes n v) ≡ take m nodes ++ v ∷ []

@@ -1,8 +1,4 @@
 // The walk along the routes of a graph, for the first one that does not order its ends.
-mod hoping;
-mod pairs;
-
-use flags::either;
 use flags::has;
 use flags::lowest;
 use flags::size;
@@ -10,9 +6,10 @@ use flags::with;
 use flags::without;
 use flags::word;
 use graph::Graph;
-use hoping::hopeful;
-use hoping::into_word;
-use pairs::lost;
+use hope::hopeful;
+use hope::into_word;
+use hope::marked;
+use hope::pairs::lost;
 use words::Words;
 use words::words_of;
 ghost use mathlib.Core.Path.{_≡_};
@@ -25,23 +22,14 @@ ghost use Rattle.graph.specs.Graph.{Sound, Orderly};
 ghost use Rattle.graph.specs.Limits.{most-nodes};
 ghost use Rattle.graph.specs.Value.{graphOf, ordersOf, Sized, Told};
 ghost use Rattle.walk.specs.Asked.{AskedOf};
-ghost use Rattle.walk.specs.Search.{Rest, Next, Answer, Into, mark};
+ghost use Rattle.hope.specs.Rest.{Rest, Next};
+ghost use Rattle.hope.specs.Hope.{Into};
+ghost use Rattle.walk.specs.Search.{Answer};
 
 // A route: the first len entries of nodes. Where there is none len is 0.
 pub struct Way {
     pub len: usize,
     pub nodes: [u16; Graph::NODES],
-}
-
-// The nodes that are ordered after the first if they come next, once the route has gone on to v.
-fn marked<'a>(fits: &'a [u64; Graph::NODES], after: u64, v: usize) -> u64
-    requires { ⌜ v < most-nodes ⌝ }
-    ensures { λ r. ⌜ r ≡ mark (now (fits .entry)) after v ⌝ }
-{
-    if !has(after, v) {
-        return after;
-    }
-    either(after, word(fits[v]))
 }
 
 // Visiting v, which is not on the route so far: that one's nodes are `visited`, and they stand at the start of `nodes`. The first way on.

@@ -12,7 +12,7 @@ use Rattle.flags.specs.Flag.{less}
 use Rattle.flags.proofs.Put.{put-count, clear-room}
 use Rattle.graph.specs.Limits.{most-nodes}
 use Rattle.walk.specs.Search.{none, found}
-use Rattle.walk.proofs.Left.{Lowest, lowest-left, none-left, done-count}
+use Rattle.hope.proofs.Left.{Lowest, lowest-left, none-left, done-count}
 use Rattle.walk.proofs.Tried.{Tried, none-tried, taken, not-taken, all-tried}
 use Rattle.walk.proofs.Visited.{ordered-end, open-end, longer, passed-on}
 use Rattle.walk.proofs.trial.Reads as trial
@@ -27,9 +27,9 @@ use Rattle.flags.proofs.size.Reads as size-reads
 use Rattle.flags.proofs.with.Reads as with-reads
 use Rattle.flags.proofs.without.Reads as without-reads
 use Rattle.flags.proofs.word.Reads as word-reads
-use Rattle.walk.proofs.hoping.hopeful.Reads as hopeful-reads
-use Rattle.walk.proofs.marked.Reads as marked-reads
-use Rattle.walk.proofs.pairs.lost.Reads as lost-reads
+use Rattle.hope.proofs.hopeful.Reads as hopeful-reads
+use Rattle.hope.proofs.marked.Reads as marked-reads
+use Rattle.hope.proofs.pairs.lost.Reads as lost-reads
 use Rattle.walk.proofs.+trial+visit.{statement}
 use Rattle.walk.proofs.+trial+visit.Tie.{close}
 

@@ -10,7 +10,7 @@ use Rattle.flags.proofs.Least.{lowest-set, lowest-first}
 use Rattle.flags.proofs.Pair.{less-in, less-l, less-out}
 use Rattle.flags.proofs.Put.{put-count, clear-room}
 use Rattle.graph.specs.Limits.{most-nodes}
-use Rattle.walk.proofs.Rest.{unset}
+use Rattle.hope.proofs.Rest.{unset}
 
 -- of the numbers in the word that are not done, k is the lowest
 pub record Lowest (word done k : ℕ) : Type 0 where

@@ -1,4 +1,4 @@
--- `walk::pairs::some_way` meets its contract: pair by pair, way by way.
+-- `hope::pairs::some_way` meets its contract: pair by pair, way by way.
 use mathlib.Core.Logic.{⊎-elim}
 use mathlib.Core.Path.{refl, sym, _∙_}
 use Prim.Native.Nat.{_-_, _<_, _^_}
@@ -9,11 +9,11 @@ use borrow.Author.Needs.{needs}
 use borrow.Author.Tests.{not-false}
 use Rattle.flags.proofs.Digit.{true-false}
 use Rattle.graph.specs.Limits.{most-nodes}
-use Rattle.walk.specs.Search.{most-pairs}
-use Rattle.walk.proofs.Left.{Lowest, lowest-left, none-left, done-count}
-use Rattle.walk.proofs.Sifted.{Sifted, sifted-start, sifted-all, Going, going-end, going-ordered, going-known, going-add}
-use Rattle.walk.proofs.pairs.some_way.Statement.{statement}
-use Rattle.walk.proofs.pairs.some_way.Tie as tie
+use Rattle.hope.specs.Hope.{most-pairs}
+use Rattle.hope.proofs.Left.{Lowest, lowest-left, none-left, done-count}
+use Rattle.hope.proofs.Sifted.{Sifted, sifted-start, sifted-all, Going, going-end, going-ordered, going-known, going-add}
+use Rattle.hope.proofs.pairs.some_way.Statement.{statement}
+use Rattle.hope.proofs.pairs.some_way.Tie as tie
 
 abbrev Inv-loop2 : tie.InvT-loop2
 Inv-loop2 succ fits goal visited after v nodes₀ words₀ n₀ i next before tried₀ nodes words n tried =

@@ -1,4 +1,4 @@
--- `walk::hoping::hopeful` meets its contract: node by node; the words only fall, and bound every way on.
+-- `hope::hopeful` meets its contract: node by node; the words only fall, and bound every way on.
 use mathlib.Core.Path.{sym, ap, _∙_}
 use Prim.Native.Nat.{ℕ, _*_, _-_, _≤_, _<_, _^_}
 use native.Mathlib.Omega.{arith}
@@ -8,11 +8,11 @@ use Rattle.flags.specs.Flag.{flag, either, less}
 use Rattle.flags.proofs.Digit.{true-false}
 use Rattle.flags.proofs.Least.{lowest-lt}
 use Rattle.graph.specs.Limits.{most-nodes}
-use Rattle.walk.specs.Search.{mark}
-use Rattle.walk.proofs.Hope.{ordered-already}
-use Rattle.walk.proofs.Reached.{Kept, kept-start, kept-on, kept-all}
-use Rattle.walk.proofs.hoping.hopeful.Statement.{statement}
-use Rattle.walk.proofs.hoping.hopeful.Tie as tie
+use Rattle.hope.specs.Rest.{mark}
+use Rattle.hope.proofs.Hope.{ordered-already}
+use Rattle.hope.proofs.Reached.{Kept, kept-start, kept-on, kept-all}
+use Rattle.hope.proofs.hopeful.Statement.{statement}
+use Rattle.hope.proofs.hopeful.Tie as tie
 
 abbrev Inv-loop : tie.InvT-loop
 Inv-loop succ fits goal into visited after v least₀ first left₀ -round₀ least left -round = (-round ≤ most-nodes * most-nodes) × (left < 2 ^ 64) × Kept succ fits into visited after v least left

@@ -1,10 +1,10 @@
--- `walk::pairs::lost` meets its contract: only the longer look says that nothing is left.
+-- `hope::pairs::lost` meets its contract: only the longer look says that nothing is left.
 use mathlib.Core.Path.{sym}
 use borrow.Author.Tests.{not-true}
 use Rattle.flags.proofs.Digit.{true-false}
 use borrow.Author.Needs.{needs}
-use Rattle.walk.proofs.pairs.lost.Statement.{statement}
-use Rattle.walk.proofs.pairs.lost.Tie as tie
+use Rattle.hope.proofs.pairs.lost.Statement.{statement}
+use Rattle.hope.proofs.pairs.lost.Tie as tie
 
 with-requires : tie.Need-with-requires
 with-requires c κs = search needs

@@ -1,5 +1,6 @@
 // Whether a route may yet go on and leave its ends unordered.
-use super::marked;
+pub mod pairs;
+
 use flags::both;
 use flags::either;
 use flags::has;
@@ -14,7 +15,19 @@ ghost use mathlib.Core.List.{List};
 ghost use Prim.Native.Nat.{ℕ, _<_};
 ghost use lib.ListN.{length};
 ghost use Rattle.graph.specs.Limits.{most-nodes};
-ghost use Rattle.walk.specs.Search.{Next, Into, Lowered};
+ghost use Rattle.hope.specs.Rest.{Next, mark};
+ghost use Rattle.hope.specs.Hope.{Into, Lowered};
+
+// The nodes that are ordered after the first if they come next, once the route has gone on to v.
+pub fn marked<'a>(fits: &'a [u64; Graph::NODES], after: u64, v: usize) -> u64
+    requires { ⌜ v < most-nodes ⌝ }
+    ensures { λ r. ⌜ r ≡ mark (now (fits .entry)) after v ⌝ }
+{
+    if !has(after, v) {
+        return after;
+    }
+    either(after, word(fits[v]))
+}
 
 // The nodes that some rule fits with the goal.
 pub fn into_word<'a>(fits: &'a [u64; Graph::NODES], goal: usize) -> u64

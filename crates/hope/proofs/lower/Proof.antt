@@ -1,17 +1,17 @@
--- `walk::hoping::lower` meets its contract: node by node.
+-- `hope::lower` meets its contract: node by node.
 use mathlib.Core.Logic.{⊎-elim}
 use Prim.Native.Nat.{_-_, _<_, _^_}
 use native.Mathlib.Omega.{arith}
 use lib.Count.{ones}
 use borrow.Author.Needs.{needs}
 use Rattle.graph.specs.Limits.{most-nodes}
-use Rattle.walk.specs.Search.{Lowered}
-use Rattle.walk.proofs.Fallen.{lowered-none, lowered-same, lowered-set, lowered-all}
-use Rattle.walk.proofs.Left.{Lowest, lowest-left, none-left, done-count}
-use Rattle.walk.proofs.hoping.lower.Statement.{statement}
-use Rattle.walk.proofs.hoping.lower.Tie as tie
-use Rattle.walk.proofs.hoping.lower.Reads as reads
-use Rattle.walk.proofs.hoping.lower.Lts as lts
+use Rattle.hope.specs.Hope.{Lowered}
+use Rattle.hope.proofs.Fallen.{lowered-none, lowered-same, lowered-set, lowered-all}
+use Rattle.hope.proofs.Left.{Lowest, lowest-left, none-left, done-count}
+use Rattle.hope.proofs.lower.Statement.{statement}
+use Rattle.hope.proofs.lower.Tie as tie
+use Rattle.hope.proofs.lower.Reads as reads
+use Rattle.hope.proofs.lower.Lts as lts
 use Rattle.flags.proofs.both.Reads as both-reads
 use Rattle.flags.proofs.lowest.Reads as lowest-reads
 use Rattle.flags.proofs.with.Reads as with-reads

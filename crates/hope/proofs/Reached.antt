@@ -13,10 +13,11 @@ use Rattle.flags.proofs.Digit.{flag-zero, true-false}
 use Rattle.flags.proofs.Pair.{either-l, either-r, either-cases, both-true, less-in}
 use Rattle.flags.proofs.Put.{put-other}
 use Rattle.graph.specs.Limits.{most-nodes}
-use Rattle.walk.specs.Search.{Lowered, Next, Into, mark}
+use Rattle.hope.specs.Rest.{Next, mark}
+use Rattle.hope.specs.Hope.{Lowered, Into}
 use Rattle.words.specs.Words.{listed}
-use Rattle.walk.proofs.Hope.{Below, no-next}
-use Rattle.walk.proofs.Rest.{unset, mark-keeps}
+use Rattle.hope.proofs.Hope.{Below, no-next}
+use Rattle.hope.proofs.Rest.{unset, mark-keeps}
 
 module _ (succ fits : List ℕ) (into visited after v : ℕ) where
   pub record Kept (least : List ℕ) (left : ℕ) : Type 0 where

@@ -1,15 +1,15 @@
--- `walk::hoping::into_word` meets its contract: flag by flag.
+-- `hope::into_word` meets its contract: flag by flag.
 use mathlib.Core.Logic.{⊎-elim}
 use mathlib.Core.Path.{_≡_, sym, ap, _∙_}
 use Prim.Native.Nat.{ℕ, _-_, _≤_}
 use borrow.Author.Needs.{needs}
 use Rattle.flags.specs.Flag.{flag}
 use Rattle.graph.specs.Limits.{most-nodes}
-use Rattle.walk.specs.Search.{Into}
+use Rattle.hope.specs.Hope.{Into}
 use Rattle.words.specs.Words.{listed}
-use Rattle.walk.proofs.Hope.{into-none, into-put}
-use Rattle.walk.proofs.hoping.into_word.Statement.{statement}
-use Rattle.walk.proofs.hoping.into_word.Tie as tie
+use Rattle.hope.proofs.Hope.{into-none, into-put}
+use Rattle.hope.proofs.into_word.Statement.{statement}
+use Rattle.hope.proofs.into_word.Tie as tie
 
 abbrev Inv-loop : tie.InvT-loop
 Inv-loop fits goal into₀ p₀ into p = (p ≤ most-nodes) × Into fits goal into

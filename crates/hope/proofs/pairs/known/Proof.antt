@@ -1,13 +1,13 @@
--- `walk::pairs::known` meets its contract: pair by pair.
+-- `hope::pairs::known` meets its contract: pair by pair.
 use mathlib.Core.Path.{sym, ap, _∙_}
 use Prim.Native.Nat.{ℕ, _-_, _≤_}
 use lib.ListN.{getD}
 use borrow.Author.Needs.{needs}
 use Rattle.flags.specs.Flag.{less}
 use Rattle.flags.proofs.Digit.{true-false}
-use Rattle.walk.proofs.Left.{none-left}
-use Rattle.walk.proofs.pairs.known.Statement.{statement}
-use Rattle.walk.proofs.pairs.known.Tie as tie
+use Rattle.hope.proofs.Left.{none-left}
+use Rattle.hope.proofs.pairs.known.Statement.{statement}
+use Rattle.hope.proofs.pairs.known.Tie as tie
 
 abbrev Inv-loop : tie.InvT-loop
 Inv-loop nodes words n y w j₀ j = j ≤ n

@@ -1,7 +1,7 @@
 // A sharper test than `hopeful`, and a slower one: all the nodes that a route can still come to, each paired with what is then ordered
 // after the first. Routes may be taken for walks here: one that comes back to a node has no less ordered than one that doesn't.
-use super::marked;
-use crate::hoping::hopeful;
+use crate::hopeful;
+use crate::marked;
 use flags::has;
 use flags::lowest;
 use flags::with;
@@ -14,7 +14,8 @@ ghost use mathlib.Core.List.{List};
 ghost use Prim.Native.Nat.{ℕ, _<_, _≤_};
 ghost use lib.ListN.{length};
 ghost use Rattle.graph.specs.Limits.{most-nodes};
-ghost use Rattle.walk.specs.Search.{most-pairs, Next, Into, Known};
+ghost use Rattle.hope.specs.Rest.{Next};
+ghost use Rattle.hope.specs.Hope.{most-pairs, Into, Known};
 
 // How many pairs `some_way` keeps before it gives up and answers true.
 const PAIRS: usize = 8 * Graph::NODES;

@@ -13,9 +13,9 @@ use Rattle.flags.specs.Flag.{flag, put, both}
 use Rattle.flags.proofs.Digit.{true-false, flag-zero}
 use Rattle.flags.proofs.Pair.{both-true}
 use Rattle.flags.proofs.Put.{put-same, put-cases, put-keeps}
-use Rattle.walk.specs.Search.{Lowered}
+use Rattle.hope.specs.Hope.{Lowered}
 use Rattle.words.specs.Words.{listed}
-use Rattle.walk.proofs.Rest.{unset}
+use Rattle.hope.proofs.Rest.{unset}
 
 pub lowered-none : (l : List ℕ) (m : ℕ) → Lowered l l 0 m 0
 lowered-none l m = record {

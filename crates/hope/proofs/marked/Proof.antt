@@ -1,11 +1,11 @@
--- `walk::marked` meets its contract: by whether v is ordered after the first.
+-- `hope::marked` meets its contract: by whether v is ordered after the first.
 use mathlib.Core.Path.{sym, ap, _∙_}
 use borrow.Author.Needs.{needs}
 use borrow.Author.Tests.{not-true, not-false}
 use Rattle.flags.specs.Flag.{either}
-use Rattle.walk.proofs.Rest.{mark-same, mark-more}
-use Rattle.walk.proofs.marked.Statement.{statement}
-use Rattle.walk.proofs.marked.Tie as tie
+use Rattle.hope.proofs.Rest.{mark-same, mark-more}
+use Rattle.hope.proofs.marked.Statement.{statement}
+use Rattle.hope.proofs.marked.Tie as tie
 
 has-requires : tie.Need-has-requires
 has-requires c κs = search needs

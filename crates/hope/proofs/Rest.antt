@@ -10,7 +10,7 @@ use Rattle.flags.specs.Flag.{flag, either}
 use Rattle.flags.proofs.Digit.{true-false}
 use Rattle.flags.proofs.Pair.{either-l, either-r, either-cases}
 use Rattle.graph.specs.Cut.{First}
-use Rattle.walk.specs.Search.{Rest, ends, goes, mark, pick}
+use Rattle.hope.specs.Rest.{Rest, ends, goes, mark, pick}
 use Rattle.words.specs.Words.{listed}
 
 pub unset : {b : Bool} → (b ≡ true → ⊥) → b ≡ false

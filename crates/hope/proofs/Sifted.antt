@@ -13,9 +13,10 @@ use Rattle.flags.specs.Flag.{flag, put}
 use Rattle.flags.proofs.Digit.{true-false}
 use Rattle.flags.proofs.Put.{put-cases, put-keeps}
 use Rattle.graph.specs.Limits.{most-nodes}
-use Rattle.walk.specs.Search.{Rest, ends, goes, Next, Inside, Known, most-pairs, mark}
+use Rattle.hope.specs.Rest.{Rest, ends, goes, Next, mark}
+use Rattle.hope.specs.Hope.{Inside, Known, most-pairs}
 use Rattle.words.specs.Words.{listed}
-use Rattle.walk.proofs.Rest.{unset, mark-grown, mark-same, rest-open}
+use Rattle.hope.proofs.Rest.{unset, mark-grown, mark-same, rest-open}
 
 -- a way that goes on to y, w being ordered after the first then: it orders the goal, or a pair is known that it is no better than
 abbrev Covered : ℕ → List ℕ → List ℕ → ℕ → ℕ → ℕ → Type 0
