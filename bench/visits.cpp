@@ -1,7 +1,8 @@
 // Counts the visits of the walk for every ordered pair of nodes of drawn graphs, and prints a row for each family
 // of shapes and set of rules, as a Markdown table.
 //
-//     visits SEED [GRAPHS]      GRAPHS for each density of fences and number of addresses; 10 if not given
+//     visits SEED [GRAPHS]                 GRAPHS for each density of fences and number of addresses; 10 if not given
+//     visits SEED GRAPHS FAMILY RULES      one row alone, by its names in the table: for longer draws
 #include <algorithm>
 #include <cstdio>
 #include <cstdlib>
@@ -141,17 +142,27 @@ void ask(plain::Graph graph, const Rules &rules, Tally &tally) {
     for (std::uint64_t visits : plain::visits(graph)) tally.add(visits);
 }
 
+// The row that is asked for; all of them where the names are empty.
+struct Wanted {
+    std::string family, rules;
+
+    bool has(const Family &one) const { return family.empty() || family == one.name; }
+    bool has(const Rules &one) const { return rules.empty() || rules == one.name; }
+};
+
 // Every set of rules gets the same graphs.
-void print_rows(Random random, const Family &family, unsigned graphs) {
+void print_rows(Random random, const Family &family, unsigned graphs, const Wanted &wanted) {
     Tally tallies[std::size(rule_sets)];
     for (unsigned density : densities)
         for (unsigned used : addresses)
             for (unsigned i = 0; i < graphs; ++i) {
                 const Drawn drawn = family.draw(random);
                 const plain::Graph graph = labelled(random, drawn, density, used);
-                for (std::size_t r = 0; r < std::size(rule_sets); ++r) ask(graph, rule_sets[r], tallies[r]);
+                for (std::size_t r = 0; r < std::size(rule_sets); ++r)
+                    if (wanted.has(rule_sets[r])) ask(graph, rule_sets[r], tallies[r]);
             }
-    for (std::size_t r = 0; r < std::size(rule_sets); ++r) tallies[r].print(family.name, rule_sets[r].name);
+    for (std::size_t r = 0; r < std::size(rule_sets); ++r)
+        if (wanted.has(rule_sets[r])) tallies[r].print(family.name, rule_sets[r].name);
 }
 
 }  // namespace
@@ -160,8 +171,10 @@ int main(int arguments, char **argument) {
     if (arguments < 2) return 2;
     const Random random(std::strtoull(argument[1], nullptr, 10));
     const unsigned graphs = arguments < 3 ? 10 : static_cast<unsigned>(std::strtoul(argument[2], nullptr, 10));
+    const Wanted wanted = arguments < 5 ? Wanted{} : Wanted{argument[3], argument[4]};
     std::printf("| family | rules | orders | that walk | median of those | 99 of 100 | most | beyond 1,000 |\n");
     std::printf("|---|---|---:|---:|---:|---:|---:|---:|\n");
-    for (const Family &family : families) print_rows(random, family, graphs);
+    for (const Family &family : families)
+        if (wanted.has(family)) print_rows(random, family, graphs, wanted);
     return 0;
 }
