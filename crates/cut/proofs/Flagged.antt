@@ -1,6 +1,6 @@
 -- Flags and rising lists are the same sets: the least by flags is the best by lists.
 -- Assumes nothing.
-use mathlib.Core.Bool.{Bool, true, false}
+use mathlib.Core.Bool.{Bool, true, false, true≢false, false≢true}
 use mathlib.Core.List.{List, [], _∷_}
 use mathlib.Core.Path.{_≡_, refl, sym, ap, _∙_, subst}
 use Prim.Native.Nat.{ℕ, zero, suc, _+_, _<_, _≤_}
@@ -13,7 +13,6 @@ use Rattle.graph.specs.Held.{Absent}
 use Rattle.graph.specs.Limits.{most-edges}
 use Rattle.graph.specs.Value.{rising}
 use Rattle.route.specs.Way.{Out}
-use Rattle.lightest.proofs.Facts.{t≢f, f≢t}
 
 -- ---- from flags to a list. The first flag is that of edge n
 
@@ -33,7 +32,7 @@ low-absent n z (false ∷ t) h = low-absent (suc n) z t (omega arith)
 -- an edge is absent from the list exactly where its flag is not set
 pub out-absent : (n : ℕ) (t : List Bool) (k z : ℕ) → z ≡ n + k → Out t k → Absent z (rising n t)
 out-absent n [] k z q o = tt
-out-absent n (true ∷ t) zero z q o = t≢f o
+out-absent n (true ∷ t) zero z q o = absurd (true≢false o)
 out-absent n (true ∷ t) (suc k) z q o = ((λ e. omega arith), out-absent (suc n) t k z (omega arith) o)
 out-absent n (false ∷ t) zero z q o = low-absent (suc n) z t (omega arith)
 out-absent n (false ∷ t) (suc k) z q o = out-absent (suc n) t k z (omega arith) o
@@ -81,8 +80,8 @@ rising-flags n (suc m) top (x ∷ d) h r = go (ℕ-discrete x n) (λ q. rising-f
 
 flags-known : (n m top : ℕ) (d : List ℕ) (k : ℕ) → Rising n top d → Has (flags n m d) k → n + k < top
 unfolding flags pick
-flags-known n zero top d k r h = f≢t h
-flags-known n (suc m) top [] zero r h = f≢t h
+flags-known n zero top d k r h = absurd (false≢true h)
+flags-known n (suc m) top [] zero r h = absurd (false≢true h)
 flags-known n (suc m) top [] (suc k) r h = omega (arith, flags-known (suc n) m top [] k tt h)
 flags-known n (suc m) top (x ∷ d) k r h = go (ℕ-discrete x n) k (λ j q z. flags-known (suc n) m top d j q z) (λ j q z. flags-known (suc n) m top (x ∷ d) j q z) h
   where
@@ -90,7 +89,7 @@ flags-known n (suc m) top (x ∷ d) k r h = go (ℕ-discrete x n) k (λ j q z. f
         → getD (pick n x e (flags (suc n) m d) (flags (suc n) m (x ∷ d))) k false ≡ true → n + k < top
     go (yes p) zero a b q = omega (arith, p, r .1)
     go (yes p) (suc k) a b q = omega (arith, a k (subst (λ (y : ℕ). Rising (suc y) top d) p (r .2)) q)
-    go (no p) zero a b q = f≢t q
+    go (no p) zero a b q = absurd (false≢true q)
     go (no p) (suc k) a b q = omega (arith, b k (omega (arith, p, r .0), r .1, r .2) q)
 
 -- ---- the least by flags

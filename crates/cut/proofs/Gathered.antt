@@ -18,7 +18,7 @@ use Rattle.graph.specs.Graph.{order}
 use Rattle.graph.specs.Limits.{most-orders}
 use Rattle.route.specs.Way.{Out}
 use Rattle.cut.proofs.Drawn.{set-old}
-use Rattle.lightest.proofs.Facts.{true-false}
+use Rattle.graph.proofs.Splits.{true-false}
 use Rattle.route.proofs.Ways.{at-same}
 
 -- ---- order by order

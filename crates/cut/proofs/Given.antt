@@ -21,7 +21,7 @@ use Rattle.graph.specs.Limits.{most-edges, most-orders}
 use Rattle.graph.specs.Value.{graphOf, rulesOf, ordersOf, Sized, Told}
 use Rattle.route.specs.Way.{Linked, Net}
 use Rattle.cut.proofs.Drawn.{Drawn, lent, lent-long, lent-at, copied-drawn, drawn-net}
-use Rattle.lightest.proofs.Facts.{bool}
+use Rattle.graph.proofs.Splits.{bool}
 use Rattle.cut.proofs.Separated.{Asks, chosen-of, weight-of}
 use Rattle.graph.proofs.Counted.{nodes-few}
 use Rattle.graph.proofs.Value.{order-at}

@@ -20,7 +20,7 @@ use Rattle.graph.specs.Limits.{most-edges}
 use Rattle.graph.specs.Value.{rising}
 use Rattle.route.specs.Way.{Way, Out}
 use Rattle.cut.proofs.Drawn.{Drawn}
-use Rattle.lightest.proofs.Facts.{lt-or-ge}
+use Rattle.graph.proofs.Splits.{lt-or-ge}
 use Rattle.cut.proofs.Flagged.{rising-rising, out-absent, absent-out, total-same, least-best}
 use Rattle.cut.proofs.Simple.{shorten}
 use Rattle.graph.specs.Cut as cut

@@ -1,6 +1,6 @@
 -- The loose node, from what scans of the edges find: what is known after each, and a law for each way out.
 -- Assumes nothing.
-use mathlib.Core.Bool.{false, true}
+use mathlib.Core.Bool.{false, true, true≢false}
 use mathlib.Core.Path.{_∙_, _≡_, ap, subst, sym, refl}
 use Prim.Native.Nat.{_+_, _-_, _<_, _≤_, ℕ}
 use native.Mathlib.Decide.{decLt, ℕ-discrete}
@@ -17,7 +17,6 @@ use Rattle.graph.specs.Graph.{edge, label, no-edge}
 use Rattle.graph.specs.Strip.{Loose}
 use Rattle.graph.specs.Value.{graphOf, Sized, Roomy}
 use Rattle.graph.proofs.Value.{node-total, edge-total, edge-at, label-at}
-use Rattle.flags.proofs.Digit.{true-false}
 
 -- the highest node
 abbrev pub highest : Value.Graph → ℕ
@@ -95,15 +94,15 @@ module _ {g : Value.Graph} (b : SomeEdge g) where
 
   -- way out: the highest node is no fence
   pub none-fence : (d : Node) → fenceb ((getD (g .nodes) (highest g) d) .label) ≡ false → None g
-  none-fence d e = denied (λ k x. true-false (sym (ap fenceb (sym (label-read d) ∙ x .is-fence)) ∙ e))
+  none-fence d e = denied (λ k x. true≢false (sym (ap fenceb (sym (label-read d) ∙ x .is-fence)) ∙ e))
 
   -- the other way: it is one
   pub fence-there : (d : Node) → fenceb ((getD (g .nodes) (highest g) d) .label) ≡ true → label (graphOf g) (highest g) ≡ Fence
   fence-there d e = label-read d ∙ so _ e
     where
       so : (l : Label) → fenceb l ≡ true → l ≡ Fence
-      so (Store a) e = absurd (true-false (sym e))
-      so (Load a) e = absurd (true-false (sym e))
+      so (Store a) e = absurd (true≢false (sym e))
+      so (Load a) e = absurd (true≢false (sym e))
       so Fence e = refl
 
   -- way out: no edge but the last ends there

@@ -1,6 +1,6 @@
 -- A flag is a digit of its word: when it is set, and where the digits end.
 -- Assumes nothing.
-use mathlib.Core.Bool.{Bool, true, false}
+use mathlib.Core.Bool.{true, false}
 use mathlib.Core.Path.{_≡_, sym, ap, _∙_, subst}
 use Prim.Native.Nat.{ℕ, suc, _/_, _%_, _^_, _<_}
 use native.Mathlib.Decide.{decLt}
@@ -61,6 +61,3 @@ digit-half n j = ap (λ (x : ℕ). x % 2) (ap (λ (x : ℕ). n / 2 ^ x) (sym (on
 pub digit-odd : (n : ℕ) → digit n 0 ≡ n % 2
 unfolding digit
 digit-odd n = ap (λ (x : ℕ). x % 2) (div-one n)
-
-pub true-false : _≡_ {A = Bool} true false → ⊥
-true-false e = let n : _≡_ {A = ℕ} 0 1 = cc in omega arith

@@ -1,5 +1,6 @@
 -- The mathematics of the definitions.
 
+pub mod Splits
 pub mod Says
 pub mod Lists
 pub mod Ruled

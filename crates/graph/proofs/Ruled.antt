@@ -1,6 +1,6 @@
 -- A rule's test is right: it passes exactly when one assignment serves both sides. And a scan of the rules goes one at a time.
 -- Assumes nothing.
-use mathlib.Core.Bool.{Bool, false, true, _||_}
+use mathlib.Core.Bool.{Bool, false, true, _||_, true≢false}
 use mathlib.Core.List.{List, [], _∷_}
 use mathlib.Core.Path.{_∙_, _≡_, refl, subst, sym, ap}
 use Prim.Native.Nat.{_<_, _≤_, suc, zero, ℕ}
@@ -16,7 +16,6 @@ use Rattle.graph.specs.declared.Side.the-variants.{Any, Is}
 use Rattle.graph.specs.declared.Want.{Want}
 use Rattle.graph.specs.declared.Want.the-variants.{Free, Never, Var}
 use Rattle.graph.specs.Fit.{Fits, Matches, Ruled, agree, fitOf, ifSame, ruledb, someb, wantOf}
-use Rattle.flags.proofs.Digit.{true-false}
 use Rattle.graph.proofs.Says.{Says, says-eq, says-iff, says-no, says-some, says-yes}
 
 -- what an assignment has to meet
@@ -94,12 +93,12 @@ module _ {A : Type 0} (f : A → Bool) where
   some-more (x ∷ xs) (suc i) d h e = skip (f x) e (some-more xs i d (le-of-suc-le-suc h))
     where
       skip : (b : Bool) → (b || someb f (take i xs)) ≡ false → (someb f (take i xs) ≡ false → someb f (take (suc i) xs) ≡ f (getD xs i d)) → (b || someb f (take (suc i) xs)) ≡ f (getD xs i d)
-      skip true e k = absurd (true-false e)
+      skip true e k = absurd (true≢false e)
       skip false e k = k e
 
   -- once one passes, more change nothing
   pub some-stays : (xs : List A) (i n : ℕ) → i ≤ n → someb f (take i xs) ≡ true → someb f (take n xs) ≡ true
-  some-stays xs zero n h e = absurd (true-false (sym e))
+  some-stays xs zero n h e = absurd (true≢false (sym e))
   some-stays xs (suc i) zero h e = absurd (not-suc-le-zero h)
   some-stays [] (suc i) (suc n) h e = e
   some-stays (x ∷ xs) (suc i) (suc n) h e = go (f x) e (some-stays xs i n (le-of-suc-le-suc h))

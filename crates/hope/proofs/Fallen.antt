@@ -1,6 +1,6 @@
 -- What `lower` keeps while it goes through the nodes whose words are to be brought down.
 -- Assumes nothing.
-use mathlib.Core.Bool.{true}
+use mathlib.Core.Bool.{true, true≢false}
 use mathlib.Core.List.{List}
 use mathlib.Core.Logic.{⊎-elim}
 use mathlib.Core.Path.{_≡_, refl, sym, ap, _∙_}
@@ -10,7 +10,7 @@ use native.Mathlib.Omega.{arith}
 use lib.ListN.{List·getD-eq-default, length-set, length, getD, set}
 use lib.Seq.{getD-set-same, getD-set-other}
 use Rattle.flags.specs.Flag.{flag, put, both}
-use Rattle.flags.proofs.Digit.{true-false, flag-zero}
+use Rattle.flags.proofs.Digit.{flag-zero}
 use Rattle.flags.proofs.Pair.{both-true}
 use Rattle.flags.proofs.Put.{put-same, put-cases, put-keeps}
 use Rattle.hope.specs.Hope.{Lowered}
@@ -19,7 +19,7 @@ use Rattle.hope.proofs.Rest.{unset}
 
 pub lowered-none : (l : List ℕ) (m : ℕ) → Lowered l l 0 m 0
 lowered-none l m = record {
-  to = λ y k h. absurd (true-false (sym h ∙ flag-zero y));
+  to = λ y k h. absurd (true≢false (sym h ∙ flag-zero y));
   down = λ y k h. h;
   same = λ y h. refl;
 }
@@ -43,8 +43,8 @@ module _ {high : List ℕ} (low : List ℕ) (done m fell y old new : ℕ) (e₁ 
   lowered-set = record {
     to = λ z k g s. to′ z k g s (ℕ-discrete z y);
     down = λ z k s. down′ z k s (ℕ-discrete z y);
-    same = λ z f. getD-set-other low y z new 0 (λ d. true-false (sym (put-same fell y) ∙ ap (flag (put fell y)) (sym d) ∙ f))
-        ∙ was .same z (unset (λ p. true-false (sym (put-keeps fell y z p) ∙ f)));
+    same = λ z f. getD-set-other low y z new 0 (λ d. true≢false (sym (put-same fell y) ∙ ap (flag (put fell y)) (sym d) ∙ f))
+        ∙ was .same z (unset (λ p. true≢false (sym (put-keeps fell y z p) ∙ f)));
   }
     where
       at : (z k : ℕ) → z ≡ y → listed (set low y new) z k ≡ true → flag new k ≡ true
@@ -55,7 +55,7 @@ module _ {high : List ℕ} (low : List ℕ) (done m fell y old new : ℕ) (e₁ 
 
           go : Dec (y < length low) → flag new k ≡ true
           go (yes h) = ap (λ (w : ℕ). flag w k) (sym (getD-set-same low y new 0 h)) ∙ here
-          go (no h) = absurd (true-false (sym here ∙ ap (λ (w : ℕ). flag w k) (List·getD-eq-default (set low y new) 0 {n = y} (omega (arith, h, length-set low y new))) ∙ flag-zero k))
+          go (no h) = absurd (true≢false (sym here ∙ ap (λ (w : ℕ). flag w k) (List·getD-eq-default (set low y new) 0 {n = y} (omega (arith, h, length-set low y new))) ∙ flag-zero k))
 
       off : (z k : ℕ) → (z ≡ y → ⊥) → listed (set low y new) z k ≡ true → listed low z k ≡ true
       off z k n s = ap (λ (w : ℕ). flag w k) (sym (getD-set-other low y z new 0 n)) ∙ s

@@ -1,13 +1,13 @@
 -- When there is no hope: the goal is ordered already, or whatever way leads there orders it.
 -- Assumes nothing.
-use mathlib.Core.Bool.{true, false}
+use mathlib.Core.Bool.{true, false, true≢false}
 use mathlib.Core.List.{List}
 use mathlib.Core.Logic.{⊎-elim}
 use mathlib.Core.Path.{_≡_, sym, ap, _∙_}
 use Prim.Native.Nat.{ℕ}
 use lib.ListN.{getD}
 use Rattle.flags.specs.Flag.{flag, put}
-use Rattle.flags.proofs.Digit.{flag-zero, true-false}
+use Rattle.flags.proofs.Digit.{flag-zero}
 use Rattle.flags.proofs.Put.{put-cases, put-keeps}
 use Rattle.hope.specs.Rest.{Rest, ends, goes, Next, mark}
 use Rattle.hope.specs.Hope.{Into, Inside}
@@ -17,7 +17,7 @@ use Rattle.hope.proofs.Rest.{unset, mark-grown, rest-new, rest-open, re
 -- ---- the nodes that some rule fits with the goal
 
 pub into-none : (fits : List ℕ) (goal : ℕ) → Into fits goal 0
-into-none fits goal p e = absurd (true-false (sym e ∙ flag-zero p))
+into-none fits goal p e = absurd (true≢false (sym e ∙ flag-zero p))
 
 pub into-put : (fits : List ℕ) (goal into p : ℕ) → Into fits goal into → listed fits p goal ≡ true → Into fits goal (put into p)
 into-put fits goal into p known e q h = ⊎-elim (λ (d : q ≡ p). ap (λ (x : ℕ). listed fits x goal) d ∙ e) (known q) (put-cases into p q h)
@@ -37,10 +37,10 @@ module _ (succ fits : List ℕ) (goal into visited after : ℕ) (known : Into fi
     -- what comes next on a route: it was not visited, and it is not one that would order the goal
     step : {vis aft y : ℕ} {l : List ℕ} (k m : ℕ) → Inside visited vis → Inside m aft → Below succ into visited least k m → listed succ k y ≡ true → Rest succ fits goal vis aft y l → Inside (getD least y 0) aft
     step {vis} {aft} {y} k m w u below s t j h =
-        u j (below y s (unset (λ p. true-false (sym (w y p) ∙ rest-new succ fits goal t))) (λ p q. rest-live succ fits goal t (u y p) (known y q)) j h)
+        u j (below y s (unset (λ p. true≢false (sym (w y p) ∙ rest-new succ fits goal t))) (λ p q. rest-live succ fits goal t (u y p) (known y q)) j h)
 
     no-rest : {vis aft v : ℕ} {l : List ℕ} → Inside visited vis → Inside (getD least v 0) aft → Rest succ fits goal vis aft v l → ⊥
-    no-rest {vis} {aft} {v} w u (ends f g h) = true-false (sym (u v (ap (λ (x : ℕ). listed least x x) g ∙ lost)) ∙ h)
+    no-rest {vis} {aft} {v} w u (ends f g h) = true≢false (sym (u v (ap (λ (x : ℕ). listed least x x) g ∙ lost)) ∙ h)
     no-rest {vis} {aft} {v} w u (goes {k = k} f g h t) =
         let w′ : Inside visited (put vis v) = λ j p. put-keeps vis v j (w j p) in
         no-rest w′ (step v (mark fits (getD least v 0) v) w′ (mark-grown fits v (getD least v 0) aft u) (closed v) h t) t

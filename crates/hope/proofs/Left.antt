@@ -1,11 +1,11 @@
 -- Going through a word from its lowest number: `done` has the numbers that it is through with.
 -- Assumes nothing.
-use mathlib.Core.Bool.{Bool, true, false}
+use mathlib.Core.Bool.{Bool, true, false, true≢false}
 use mathlib.Core.Path.{_≡_, refl, sym, ap, subst, _∙_}
 use Prim.Native.Nat.{ℕ, _+_, _<_, _^_}
 use lib.Count.{ones}
 use Rattle.flags.specs.Flag.{flag, put, less, lowest}
-use Rattle.flags.proofs.Digit.{true-false, flag-zero, flag-lt}
+use Rattle.flags.proofs.Digit.{flag-zero, flag-lt}
 use Rattle.flags.proofs.Least.{lowest-set, lowest-first}
 use Rattle.flags.proofs.Pair.{less-in, less-l, less-out}
 use Rattle.flags.proofs.Put.{put-count, clear-room}
@@ -23,7 +23,7 @@ pub lowest-left : (word done left k : ℕ) → left ≡ less word done → left 
 lowest-left word done left k e fit z low = record {
   node = flag-lt left k fit at;
   among = less-l word done k in-less;
-  new = unset (λ p. true-false (sym in-less ∙ less-out word done k p));
+  new = unset (λ p. true≢false (sym in-less ∙ less-out word done k p));
   first = first′;
 }
   where
@@ -38,14 +38,14 @@ lowest-left word done left k e fit z low = record {
       where
         by : (b : Bool) → flag done j ≡ b → flag done j ≡ true
         by true p = p
-        by false p = absurd (true-false (sym (ap (λ (x : ℕ). flag x j) e ∙ less-in word done j s p) ∙ lowest-first left j fit z (subst (λ (x : ℕ). j < x) low h)))
+        by false p = absurd (true≢false (sym (ap (λ (x : ℕ). flag x j) e ∙ less-in word done j s p) ∙ lowest-first left j fit z (subst (λ (x : ℕ). j < x) low h)))
 
 pub none-left : (word done left : ℕ) → left ≡ less word done → left ≡ 0 → (j : ℕ) → flag word j ≡ true → flag done j ≡ true
 none-left word done left e z j h = by (flag done j) refl
   where
     by : (b : Bool) → flag done j ≡ b → flag done j ≡ true
     by true p = p
-    by false p = absurd (true-false (sym (less-in word done j h p) ∙ ap (λ (x : ℕ). flag x j) (sym e ∙ z) ∙ flag-zero j))
+    by false p = absurd (true≢false (sym (less-in word done j h p) ∙ ap (λ (x : ℕ). flag x j) (sym e ∙ z) ∙ flag-zero j))
 
 -- one more is done, and there was room for it
 pub done-count : (word done k more : ℕ) → done < 2 ^ 64 → Lowest word done k → more ≡ put done k → (ones more ≡ ones done + 1) × (ones done < most-nodes)

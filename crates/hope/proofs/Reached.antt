@@ -1,6 +1,6 @@
 -- What `hopeful` keeps: the words of the nodes that are not left to be looked at are brought down along their steps.
 -- Assumes nothing.
-use mathlib.Core.Bool.{true, false}
+use mathlib.Core.Bool.{true, false, true≢false}
 use mathlib.Core.List.{List}
 use mathlib.Core.Logic.{⊎-elim}
 use mathlib.Core.Path.{_≡_, refl, sym, ap, subst, _∙_}
@@ -9,7 +9,7 @@ use native.Mathlib.Decide.{decLt, ℕ-discrete}
 use native.Mathlib.Omega.{arith}
 use lib.ListN.{length, getD, replicate, List·getD-eq-default}
 use Rattle.flags.specs.Flag.{flag, put, either, both, less}
-use Rattle.flags.proofs.Digit.{flag-zero, true-false}
+use Rattle.flags.proofs.Digit.{flag-zero}
 use Rattle.flags.proofs.Pair.{either-l, either-r, either-cases, both-true, less-in}
 use Rattle.flags.proofs.Put.{put-other}
 use Rattle.graph.specs.Limits.{most-nodes}
@@ -27,7 +27,7 @@ module _ (succ fits : List ℕ) (into visited after v : ℕ) where
   -- the steps from x, once `lower` has gone over them
   spread : {high low : List ℕ} {fell : ℕ} (x m word next : ℕ) → word ≡ getD succ x 0 → next ≡ less word (either visited (both m into)) → Lowered high low next m fell → Below succ into visited low x m
   spread x m word next e₁ e₂ lowered y s f n k = lowered .to y k (ap (λ (w : ℕ). flag w y) e₂ ∙ less-in word (either visited (both m into)) y (ap (λ (w : ℕ). flag w y) e₁ ∙ s)
-      (unset (λ h. ⊎-elim (λ p. true-false (sym p ∙ f)) (λ p. let q = both-true m into y p in n (q .0) (q .1)) (either-cases visited (both m into) y h))))
+      (unset (λ h. ⊎-elim (λ p. true≢false (sym p ∙ f)) (λ p. let q = both-true m into y p in n (q .0) (q .1)) (either-cases visited (both m into) y h))))
 
   pub kept-start : (top : ℕ) (least : List ℕ) (word next fell : ℕ) → length succ ≡ most-nodes
       → word ≡ getD succ v 0
@@ -37,7 +37,7 @@ module _ (succ fits : List ℕ) (into visited after v : ℕ) where
   kept-start top least word next fell long e₁ e₂ lowered = record { start = spread v after word next e₁ e₂ lowered; closed = λ x h. go x h (decLt x most-nodes) }
     where
       below-top : (n y k : ℕ) → listed (replicate n top) y k ≡ true → flag top k ≡ true
-      below-top zero y k h = absurd (true-false (sym h ∙ flag-zero k))
+      below-top zero y k h = absurd (true≢false (sym h ∙ flag-zero k))
       below-top (suc n) zero k h = h
       below-top (suc n) (suc y) k h = below-top n y k h
 
@@ -48,7 +48,7 @@ module _ (succ fits : List ℕ) (into visited after v : ℕ) where
 
       go : (x : ℕ) → flag fell x ≡ false → Dec (x < most-nodes) → Below succ into visited least x (mark fits (getD least x 0) x)
       go x h (yes l) y s f n k p = mark-keeps fits (getD least x 0) x k (ap (λ (w : ℕ). flag w k) (lowered .same x h ∙ top-at most-nodes x l) ∙ below-top most-nodes y k (lowered .down y k p))
-      go x h (no l) y s f n k p = absurd (true-false (sym s ∙ ap (λ (w : ℕ). flag w y) (List·getD-eq-default succ 0 {n = x} (omega (arith, l, long))) ∙ flag-zero y))
+      go x h (no l) y s f n k p = absurd (true≢false (sym s ∙ ap (λ (w : ℕ). flag w y) (List·getD-eq-default succ 0 {n = x} (omega (arith, l, long))) ∙ flag-zero y))
 
   pub kept-on : (high low : List ℕ) (left x m word next fell one rest last : ℕ)
       → m ≡ mark fits (getD high x 0) x
@@ -68,8 +68,8 @@ module _ (succ fits : List ℕ) (into visited after v : ℕ) where
       -- a node that is not left now did not fall, and was not left but for x
       out : (z : ℕ) → flag last z ≡ false → (flag fell z ≡ false) × (flag rest z ≡ false)
       out z h = (
-        unset (λ p. true-false (sym (ap (λ (w : ℕ). flag w z) e₆ ∙ either-r rest fell z p) ∙ h)),
-        unset (λ p. true-false (sym (ap (λ (w : ℕ). flag w z) e₆ ∙ either-l rest fell z p) ∙ h)),
+        unset (λ p. true≢false (sym (ap (λ (w : ℕ). flag w z) e₆ ∙ either-r rest fell z p) ∙ h)),
+        unset (λ p. true≢false (sym (ap (λ (w : ℕ). flag w z) e₆ ∙ either-l rest fell z p) ∙ h)),
       )
 
       go : (z : ℕ) → flag fell z ≡ false → flag rest z ≡ false → Dec (z ≡ x) → Below succ into visited low z (mark fits (getD low z 0) z)
@@ -78,7 +78,7 @@ module _ (succ fits : List ℕ) (into visited after v : ℕ) where
           (subst (λ (w : ℕ). Below succ into visited low w m) (sym d) (spread x m word next e₂ e₃ lowered))
       go z a b (no n) =
           let was : flag left z ≡ false =
-          unset (λ p. true-false (sym (ap (λ (w : ℕ). flag w z) (e₅ ∙ ap (less left) e₄) ∙ less-in left (put 0 x) z p (put-other 0 x z n ∙ flag-zero z)) ∙ b)) in
+          unset (λ p. true≢false (sym (ap (λ (w : ℕ). flag w z) (e₅ ∙ ap (less left) e₄) ∙ less-in left (put 0 x) z p (put-other 0 x z n ∙ flag-zero z)) ∙ b)) in
           subst (λ (w : ℕ). Below succ into visited low z (mark fits w z)) (sym (lowered .same z a)) (λ y s f m k p. kept .closed z was y s f m k (lowered .down y k p))
 
   pub kept-all : (goal : ℕ) → Into fits goal into → (least : List ℕ) (left : ℕ) → Kept least left → left ≡ 0 → listed least goal goal ≡ true → (l : List ℕ) → Next succ fits goal visited after v l → ⊥

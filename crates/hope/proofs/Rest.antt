@@ -1,13 +1,12 @@
 -- What holds of every list that the search looks for: it starts with a node that is not on the route, and the goal is not ordered yet.
 -- Assumes nothing.
-use mathlib.Core.Bool.{Bool, true, false}
+use mathlib.Core.Bool.{Bool, true, false, true≢false}
 use mathlib.Core.List.{List}
 use mathlib.Core.Logic.{inl, ⊎-elim}
 use mathlib.Core.Path.{_≡_, refl, sym, ap, _∙_}
 use Prim.Native.Nat.{ℕ, _<_}
 use lib.ListN.{getD}
 use Rattle.flags.specs.Flag.{flag, either}
-use Rattle.flags.proofs.Digit.{true-false}
 use Rattle.flags.proofs.Pair.{either-l, either-r, either-cases}
 use Rattle.graph.specs.Cut.{First}
 use Rattle.hope.specs.Rest.{Rest, ends, goes, mark, pick}
@@ -49,12 +48,12 @@ module _ (succ fits : List ℕ) (goal : ℕ) where
   rest-new (goes f g h t) = f
 
   pub rest-open : {visited after v : ℕ} {l : List ℕ} → Rest succ fits goal visited after v l → flag after goal ≡ true → ⊥
-  rest-open {visited} {after} (ends f g h) e = true-false (sym e ∙ ap (flag after) (sym g) ∙ h)
+  rest-open {visited} {after} (ends f g h) e = true≢false (sym e ∙ ap (flag after) (sym g) ∙ h)
   rest-open {visited} {after} {v} (goes f g h t) e = rest-open t (mark-keeps fits after v goal e)
 
   -- it does not start with a node that would order the goal
   pub rest-live : {visited after v : ℕ} {l : List ℕ} → Rest succ fits goal visited after v l → flag after v ≡ true → listed fits v goal ≡ true → ⊥
-  rest-live (ends p q h) e f = true-false (sym e ∙ h)
+  rest-live (ends p q h) e f = true≢false (sym e ∙ h)
   rest-live {visited} {after} {v} (goes p q h t) e f = rest-open t (mark-new fits after v goal e f)
 
   -- one that starts with a lower node comes first

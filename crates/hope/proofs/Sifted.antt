@@ -1,6 +1,6 @@
 -- The pairs of a node and a word that ways on from a node come to, one after the other; and that nothing goes on where they are all looked at.
 -- Assumes nothing.
-use mathlib.Core.Bool.{true, false}
+use mathlib.Core.Bool.{true, false, true≢false}
 use mathlib.Core.List.{List}
 use mathlib.Core.Logic.{_⊎_, inl, inr, ⊎-elim, _≢_}
 use mathlib.Core.Path.{_≡_, sym, ap, _∙_, subst, subst⁻¹}
@@ -10,7 +10,6 @@ use native.Mathlib.Omega.{arith}
 use lib.ListN.{length, getD, set, length-set}
 use lib.Seq.{getD-set-same, getD-set-other}
 use Rattle.flags.specs.Flag.{flag, put}
-use Rattle.flags.proofs.Digit.{true-false}
 use Rattle.flags.proofs.Put.{put-cases, put-keeps}
 use Rattle.graph.specs.Limits.{most-nodes}
 use Rattle.hope.specs.Rest.{Rest, ends, goes, Next, mark}
@@ -43,7 +42,7 @@ module _ (succ fits : List ℕ) (goal visited after v : ℕ) where
       start = (first, ap (λ (x : List ℕ). getD x 0 0) q ∙ getD-set-same words₀ 0 after 0 (omega (arith, k)));
       low = λ j b. let e : j ≡ 0 = omega (arith, b, m) in omega (arith, ap (λ (x : ℕ). getD nodes x 0) e, first, h);
       route = λ y e. e;
-      covered = λ j y c s e. absurd (⊎-elim (λ b. omega (arith, b, z)) (λ b. true-false (sym (b .1) ∙ e)) c);
+      covered = λ j y c s e. absurd (⊎-elim (λ b. omega (arith, b, z)) (λ b. true≢false (sym (b .1) ∙ e)) c);
     }
       where
         first : getD nodes 0 0 ≡ v
@@ -59,7 +58,7 @@ module _ (succ fits : List ℕ) (goal visited after v : ℕ) where
         start = y .start;
         low = y .low;
         route = λ k e. e;
-        covered = λ j k c s e. ⊎-elim (λ b. old j k s e b (ℕ-discrete j i)) (λ b. absurd (true-false (sym (b .1) ∙ e))) c;
+        covered = λ j k c s e. ⊎-elim (λ b. old j k s e b (ℕ-discrete j i)) (λ b. absurd (true≢false (sym (b .1) ∙ e))) c;
       }
         where
           old : (j k : ℕ) → listed succ (getD nodes j 0) k ≡ true → flag visited k ≡ false → j < i + 1 → Dec (j ≡ i) → Covered goal nodes words n k (mark fits (getD words j 0) k)
@@ -80,7 +79,7 @@ module _ (succ fits : List ℕ) (goal visited after v : ℕ) where
         }
           where
             route : (x : ℕ) → flag more x ≡ false → flag visited x ≡ false
-            route x e = y .route x (unset (λ p. true-false (sym (put-keeps tried k x p) ∙ ap (λ (m : ℕ). flag m x) (sym one) ∙ e)))
+            route x e = y .route x (unset (λ p. true≢false (sym (put-keeps tried k x p) ∙ ap (λ (m : ℕ). flag m x) (sym one) ∙ e)))
 
             here : (j x : ℕ) → j ≡ i → flag more x ≡ true → listed succ (getD nodes j 0) x ≡ true → flag visited x ≡ false → Covered goal nodes words n x (mark fits (getD words j 0) x)
             here j x p t s e = ⊎-elim
@@ -130,13 +129,13 @@ module _ (succ fits : List ℕ) (goal visited after v : ℕ) where
   module _ (nodes words : List ℕ) (n i : ℕ) (y : Sifted succ fits goal visited after v nodes words n i visited) (all : n ≤ i) where
     no-way : {vis aft k : ℕ} {l : List ℕ} (j : ℕ) → j < n → Inside visited vis → Inside (getD words j 0) aft → listed succ (getD nodes j 0) k ≡ true → Rest succ fits goal vis aft k l → ⊥
     no-way {vis} {aft} {k} j h w u s (ends f g open′) = ⊎-elim
-        (λ c. true-false (sym (ap (flag aft) g ∙ ap (λ (z : ℕ). flag z goal) (sym (mark-same fits aft k open′)) ∙ mark-grown fits k (getD words j 0) aft u goal c) ∙ open′))
+        (λ c. true≢false (sym (ap (flag aft) g ∙ ap (λ (z : ℕ). flag z goal) (sym (mark-same fits aft k open′)) ∙ mark-grown fits k (getD words j 0) aft u goal c) ∙ open′))
         (λ c. c .0 g)
-        (y .covered j k (inl (omega (arith, h, all))) s (unset (λ p. true-false (sym (w k p) ∙ f))))
+        (y .covered j k (inl (omega (arith, h, all))) s (unset (λ p. true≢false (sym (w k p) ∙ f))))
     no-way {vis} {aft} {k} j h w u s (goes {k = next} f g t rest) = ⊎-elim
         (λ c. rest-open succ fits goal rest (mark-grown fits k (getD words j 0) aft u goal c))
         (λ (apart, (j′, h′, at, inside)). no-way {k = next} j′ h′ (λ x p. put-keeps vis k x (w x p)) (λ x p. mark-grown fits k (getD words j 0) aft u x (inside x p)) (ap (λ (z : ℕ). listed succ z next) at ∙ t) rest)
-        (y .covered j k (inl (omega (arith, h, all))) s (unset (λ p. true-false (sym (w k p) ∙ f))))
+        (y .covered j k (inl (omega (arith, h, all))) s (unset (λ p. true≢false (sym (w k p) ∙ f))))
 
     pub sifted-all : (l : List ℕ) → Next succ fits goal visited after v l → ⊥
     sifted-all l (k, s, t) = no-way {k = k} 0 (y .some) (λ x p. p) (λ x p. ap (λ (z : ℕ). flag z x) (sym (y .start .1)) ∙ p) (ap (λ (z : ℕ). listed succ z k) (y .start .0) ∙ s) t

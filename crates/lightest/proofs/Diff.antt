@@ -12,7 +12,7 @@ use borrow.Author.Tests.{lt-ltb, le-ltb, ltb-true, ltb-false}
 use mir.Syntax.{w64}
 use mir.Val.{SFits, toZ, ofZ}
 use mir.ValLaws.{toZ-ofZ, toZ-pos}
-use Rattle.lightest.proofs.Facts.{lt-or-ge, tri}
+use Rattle.graph.proofs.Splits.{lt-or-ge, tri}
 
 diff-lt : (a b : ℕ) → a < b → pos a -ℤ pos b ≡ negsuc (b - suc a)
 diff-lt a zero h = absurd (omega arith)

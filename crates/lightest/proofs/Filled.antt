@@ -17,7 +17,7 @@ use Rattle.lightest.specs.Search.{Branch, Fair, Next, Unspent, Smallest,
 use Rattle.lightest.specs.Sets.{Has, weigh}
 use Rattle.graph.specs.Limits.{most-edges}
 use Rattle.route.specs.Way.{Way, Out, Remains, Parts, Found}
-use Rattle.lightest.proofs.Facts.{bool, lt-or-ge}
+use Rattle.graph.proofs.Splits.{bool, lt-or-ge}
 use Rattle.lightest.proofs.Weights.{total-less, total-unspent}
 use Rattle.route.proofs.Ways.{at-same}
 

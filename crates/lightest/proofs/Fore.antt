@@ -1,6 +1,6 @@
 -- Which of two sets of one weight comes first: the one that has the first edge in which the two differ.
 -- Assumes nothing.
-use mathlib.Core.Bool.{Bool, true, false}
+use mathlib.Core.Bool.{Bool, true, false, true≢false, false≢true}
 use mathlib.Core.List.{List, [], _∷_}
 use mathlib.Core.Logic.{inl, inr}
 use mathlib.Core.Path.{_≡_, refl, ap}
@@ -10,7 +10,6 @@ use lib.ListN.{getD}
 use Rattle.lightest.specs.Sets.{Has}
 use Rattle.graph.specs.Cut.{First, total}
 use Rattle.graph.specs.Value.{rising}
-use Rattle.lightest.proofs.Facts.{t≢f, f≢t}
 
 -- below i the two have the same edges
 abbrev pub Agree : List Bool → List Bool → ℕ → Type 0
@@ -27,14 +26,14 @@ module _ (w : ℕ → ℕ) where
 
   -- the first flag is that of edge n; they differ first at flag j, that of edge i
   pub fore-first : (n : ℕ) (a b : List Bool) (j i : ℕ) → i ≡ n + j → 1 ≤ w i → total w (rising n a) ≡ total w (rising n b) → Agree a b j → Has a j → getD b j false ≡ false → First (rising n a) (rising n b)
-  fore-first n [] b j i q p e f h o = f≢t h
-  fore-first n (false ∷ a) b zero i q p e f h o = f≢t h
+  fore-first n [] b j i q p e f h o = absurd (false≢true h)
+  fore-first n (false ∷ a) b zero i q p e f h o = absurd (false≢true h)
   fore-first n (true ∷ a) [] zero i q p e f h o = let z : i ≡ n = omega arith in absurd (omega (arith, ap w z))
-  fore-first n (true ∷ a) (true ∷ b) zero i q p e f h o = t≢f o
+  fore-first n (true ∷ a) (true ∷ b) zero i q p e f h o = absurd (true≢false o)
   fore-first n (true ∷ a) (false ∷ b) zero i q p e f h o = let z : i ≡ n = omega arith in sooner n (suc n) (rising (suc n) a) b (omega arith) (omega (arith, ap w z))
-  fore-first n (true ∷ a) [] (suc j) i q p e f h o = t≢f (f 0 (omega arith))
+  fore-first n (true ∷ a) [] (suc j) i q p e f h o = absurd (true≢false (f 0 (omega arith)))
   fore-first n (false ∷ a) [] (suc j) i q p e f h o = fore-first (suc n) a [] j i (omega arith) p e (λ k l. f (suc k) (omega arith)) h refl
   fore-first n (true ∷ a) (true ∷ b) (suc j) i q p e f h o = inr (refl, fore-first (suc n) a b j i (omega arith) p (omega arith) (agree-tail true true a b j f) h o)
-  fore-first n (true ∷ a) (false ∷ b) (suc j) i q p e f h o = t≢f (f 0 (omega arith))
-  fore-first n (false ∷ a) (true ∷ b) (suc j) i q p e f h o = f≢t (f 0 (omega arith))
+  fore-first n (true ∷ a) (false ∷ b) (suc j) i q p e f h o = absurd (true≢false (f 0 (omega arith)))
+  fore-first n (false ∷ a) (true ∷ b) (suc j) i q p e f h o = absurd (false≢true (f 0 (omega arith)))
   fore-first n (false ∷ a) (false ∷ b) (suc j) i q p e f h o = fore-first (suc n) a b j i (omega arith) p e (agree-tail false false a b j f) h o

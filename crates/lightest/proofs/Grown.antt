@@ -1,6 +1,6 @@
 -- A cut with one edge more, and the empty cut.
 -- Assumes nothing.
-use mathlib.Core.Bool.{Bool, false, true}
+use mathlib.Core.Bool.{Bool, false, true, false≢true}
 use mathlib.Core.List.{List}
 use mathlib.Core.Path.{_∙_, _≡_, ap, sym}
 use Prim.Native.Nat.{_+_, _<_, _≤_, ℕ}
@@ -13,7 +13,6 @@ use Rattle.lightest.specs.Made.{Made, most-weight}
 use Rattle.lightest.specs.Sets.{Edges, Has, PartOf, weigh}
 use Rattle.graph.specs.Cut.{total}
 use Rattle.graph.specs.Limits.{most-edges}
-use Rattle.lightest.proofs.Facts.{f≢t}
 use Rattle.lightest.proofs.Weights.{none-has, none-rising, total-part, total-set}
 
 set-edges : (ws : List ℕ) (s : List Bool) (e : ℕ) → Edges ws s → e < length ws → 1 ≤ getD ws e 0 → Edges ws (set s e true)
@@ -61,7 +60,7 @@ part-more s t e l f i h = f i (go (ℕ-discrete i e))
 
 pub made-none : (ws : List ℕ) (c : Cut) → c .weight ≡ 0 → c .chosen ≡ replicate most-edges false → Made ws c
 made-none ws c w e = record {
-  edges = record { long = ap length e ∙ length-replicate most-edges false; known = λ i h. f≢t (sym (ap (λ (l : List Bool). getD l i false) e ∙ none-has most-edges i) ∙ h) };
+  edges = record { long = ap length e ∙ length-replicate most-edges false; known = λ i h. absurd (false≢true (sym (ap (λ (l : List Bool). getD l i false) e ∙ none-has most-edges i) ∙ h)) };
   sum = ap (weigh ws) e ∙ ap (total (λ i. getD ws i 0)) (none-rising 0 most-edges) ∙ sym w;
   small = omega arith;
 }

@@ -1,5 +1,4 @@
 -- The mathematics of the search for the lightest set of edges.
-pub mod Facts
 pub mod Diff
 pub mod Weights
 pub mod Fore

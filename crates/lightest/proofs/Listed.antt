@@ -17,7 +17,7 @@ use Rattle.lightest.specs.Sets.{Has, Edges, PartOf, Least, weigh}
 use Rattle.graph.specs.Cut.{First}
 use Rattle.graph.specs.Limits.{most-edges}
 use Rattle.graph.specs.Value.{rising}
-use Rattle.lightest.proofs.Facts.{true-false, bool, lt-or-ge}
+use Rattle.graph.proofs.Splits.{true-false, bool, lt-or-ge}
 use Rattle.lightest.proofs.Fore.{Agree, fore-first}
 use Rattle.lightest.proofs.Grown.{grown, grown-part, grown-heavy}
 use Rattle.lightest.proofs.Weights.{none-has, total-has, total-part}

@@ -11,7 +11,7 @@ use lib.Seq.{getD-set-same}
 use borrow.Author.Count.{below-more}
 use Rattle.lightest.specs.Search.{Unspent}
 use Rattle.graph.specs.Limits.{most-edges}
-use Rattle.lightest.proofs.Facts.{true-false, lt-or-ge}
+use Rattle.graph.proofs.Splits.{true-false, lt-or-ge}
 use Rattle.route.proofs.Ways.{set-val, at-same}
 
 zeros : (n k : ℕ) → _≡_ {A = ℕ} (getD (replicate n 0) k 0) 0

@@ -1,6 +1,6 @@
 -- The steps of the search for the lightest cut. P is what a cut must satisfy.
 -- Assumes nothing.
-use mathlib.Core.Bool.{Bool, true, false}
+use mathlib.Core.Bool.{Bool, true, false, true≢false, false≢true}
 use mathlib.Core.List.{List}
 use mathlib.Core.Logic.{inl, inr}
 use mathlib.Core.Path.{_≡_, refl, sym, ap, _∙_, subst, subst⁻¹}
@@ -16,7 +16,7 @@ use Rattle.lightest.specs.Made.{Made, Lighter, most-weight}
 use Rattle.lightest.specs.Search.{Branch, Next, Packed, Lightest, Picked}
 use Rattle.lightest.specs.Sets.{Has, PartOf, weigh}
 use Rattle.graph.specs.Limits.{most-edges}
-use Rattle.lightest.proofs.Facts.{true-false, t≢f, f≢t}
+use Rattle.graph.proofs.Splits.{true-false}
 use Rattle.lightest.proofs.Grown.{grown-part, grown-heavy, part-more}
 use Rattle.lightest.proofs.Weights.{total-part}
 
@@ -45,16 +45,16 @@ module _ (ws : List ℕ) (P : List Bool → Type 0) (few : length ws ≤ most-ed
   pub pick-leaf : P (s .chosen) → Picked ws P s a (record { found = true; cut = s })
   pick-leaf p = record {
     some = λ e. record { made = ms; good = p; has = λ e h. h; spent = omega arith; least = λ t b. omega (arith, ms .sum, total-part (λ i. getD ws i 0) 0 (s .chosen) t (ms .edges .long ∙ sym (b .edges .long)) (b .has)) };
-    none = λ e. t≢f e;
+    none = λ e. absurd (true≢false e);
     small = ms .small;
   }
 
   -- the bound is above the allowance
   pub pick-low : (left : List ℕ) (sum : ℕ) → Packed ws P s left sum → a < sum → Picked ws P s a (record { found = false; cut = s })
-  pick-low left sum p h = record { some = λ e. f≢t e; none = λ e t b. omega (arith, p t b); small = ms .small }
+  pick-low left sum p h = record { some = λ e. absurd (false≢true e); none = λ e t b. omega (arith, p t b); small = ms .small }
 
   pub tried-none : (es : List ℕ) → Tried ws P s a es (record { found = false; cut = s }) a 0
-  tried-none es = record { small = ms .small; low = omega arith; none = λ e. refl; some = λ e. f≢t e; seen = λ t b k h. absurd (omega arith) }
+  tried-none es = record { small = ms .small; low = omega arith; none = λ e. refl; some = λ e. absurd (false≢true e); seen = λ t b k h. absurd (omega arith) }
 
   module _ (es : List ℕ) (best : Pick) (rest i : ℕ) (so : Tried ws P s a es best rest i) (e : ℕ) (at : e ≡ getD es i 0) (l : e < length ws) (p : 1 ≤ getD ws e 0) (f : getD (s .chosen) e false ≡ false) where
     has-e : (t : List Bool) → Has t (getD es i 0) → Has t e

@@ -1,6 +1,6 @@
 -- What sets of edges weigh: one edge more, a part of a set, and weak duality. The first flag of a set is that of edge n.
 -- Assumes nothing.
-use mathlib.Core.Bool.{Bool, true, false}
+use mathlib.Core.Bool.{Bool, true, false, true≢false, false≢true}
 use mathlib.Core.List.{List, [], _∷_}
 use mathlib.Core.Path.{_≡_, refl, ap}
 use Prim.Native.Nat.{ℕ, zero, suc, _+_, _*_, _<_, _≤_}
@@ -9,7 +9,6 @@ use lib.ListN.{length, getD, set, replicate}
 use Rattle.lightest.specs.Sets.{Has, PartOf}
 use Rattle.graph.specs.Cut.{total}
 use Rattle.graph.specs.Value.{rising}
-use Rattle.lightest.proofs.Facts.{t≢f, f≢t}
 
 -- the empty set has no edge, and no list
 pub none-has : (n e : ℕ) → getD (replicate n false) e false ≡ false
@@ -30,16 +29,16 @@ module _ (w : ℕ → ℕ) where
   -- one edge more
   pub total-set : (n : ℕ) (s : List Bool) (e i : ℕ) → i ≡ n + e → e < length s → getD s e false ≡ false → total w (rising n (set s e true)) ≡ total w (rising n s) + w i
   total-set n [] e i q l h = absurd (omega arith)
-  total-set n (true ∷ s) zero i q l h = t≢f h
+  total-set n (true ∷ s) zero i q l h = absurd (true≢false h)
   total-set n (false ∷ s) zero i q l h = let p : i ≡ n = omega arith in omega (arith, ap w p)
   total-set n (true ∷ s) (suc e) i q l h = omega (arith, total-set (suc n) s e i (omega arith) (omega arith) h)
   total-set n (false ∷ s) (suc e) i q l h = total-set (suc n) s e i (omega arith) (omega arith) h
 
   -- a set weighs at least what one edge of it does
   pub total-has : (n : ℕ) (t : List Bool) (e i : ℕ) → i ≡ n + e → Has t e → w i ≤ total w (rising n t)
-  total-has n [] e i q h = f≢t h
+  total-has n [] e i q h = absurd (false≢true h)
   total-has n (true ∷ t) zero i q h = let p : i ≡ n = omega arith in omega (arith, ap w p)
-  total-has n (false ∷ t) zero i q h = f≢t h
+  total-has n (false ∷ t) zero i q h = absurd (false≢true h)
   total-has n (true ∷ t) (suc e) i q h = omega (arith, total-has (suc n) t e i (omega arith) h)
   total-has n (false ∷ t) (suc e) i q h = total-has (suc n) t e i (omega arith) h
 
@@ -55,7 +54,7 @@ module _ (w : ℕ → ℕ) where
   total-unspent v n [] [] l f z d = omega arith
   total-unspent v n [] (y ∷ t) l f z d = absurd (omega arith)
   total-unspent v n (x ∷ s) [] l f z d = absurd (omega arith)
-  total-unspent v n (true ∷ s) (false ∷ t) l f z d = f≢t (f 0 refl)
+  total-unspent v n (true ∷ s) (false ∷ t) l f z d = absurd (false≢true (f 0 refl))
   total-unspent v n (true ∷ s) (true ∷ t) l f z d =
       omega (arith, z 0 n (omega arith) refl, total-unspent v (suc n) s t (omega arith) (λ e. f (suc e)) (λ e i q h. z (suc e) i (omega arith) h) d)
   total-unspent v n (false ∷ s) (true ∷ t) l f z d =
@@ -64,9 +63,9 @@ module _ (w : ℕ → ℕ) where
 
   -- less everywhere, and a less at an edge of the set: lighter by a
   pub total-less : (v : ℕ → ℕ) (n : ℕ) (t : List Bool) (a e i : ℕ) → i ≡ n + e → ((x : ℕ) → v x ≤ w x) → Has t e → v i + a ≤ w i → total v (rising n t) + a ≤ total w (rising n t)
-  total-less v n [] a e i q d h l = f≢t h
+  total-less v n [] a e i q d h l = absurd (false≢true h)
   total-less v n (true ∷ t) a zero i q d h l = let p : i ≡ n = omega arith in omega (arith, ap v p, ap w p, total-down v w (rising (suc n) t) d)
-  total-less v n (false ∷ t) a zero i q d h l = f≢t h
+  total-less v n (false ∷ t) a zero i q d h l = absurd (false≢true h)
   total-less v n (true ∷ t) a (suc e) i q d h l = omega (arith, d n, total-less v (suc n) t a e i (omega arith) d h l)
   total-less v n (false ∷ t) a (suc e) i q d h l = total-less v (suc n) t a e i (omega arith) d h l
 

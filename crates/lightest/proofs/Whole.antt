@@ -1,6 +1,6 @@
 -- There is a cut: all the edges. No cut weighs more than all edges can.
 -- Assumes nothing.
-use mathlib.Core.Bool.{Bool, true, false}
+use mathlib.Core.Bool.{Bool, true, false, false≢true}
 use mathlib.Core.List.{List, [], _∷_}
 use mathlib.Core.Logic.{⊎-elim}
 use mathlib.Core.Path.{_≡_, refl, sym, ap, _∙_}
@@ -13,7 +13,7 @@ use Rattle.lightest.specs.Apart.{Apart, Known}
 use Rattle.lightest.specs.Search.{Picked}
 use Rattle.lightest.specs.Sets.{Has, Edges}
 use Rattle.graph.specs.Limits.{most-edges}
-use Rattle.lightest.proofs.Facts.{true-false, f≢t, bool, lt-or-ge}
+use Rattle.graph.proofs.Splits.{true-false, bool, lt-or-ge}
 use Rattle.lightest.proofs.Weights.{none-has, total-most}
 
 -- n flags, the first m of them set
@@ -53,5 +53,5 @@ module _ (from to links ws firsts seconds : List ℕ) (kn : Known from to links 
 
   -- so the search from nothing finds one
   pub found : (s : Cut) (a : ℕ) (r : Pick) → ((e : ℕ) → getD ws e 0 < 65536) → s .chosen ≡ replicate most-edges false → 12582720 ≤ a → Picked ws (Apart from to firsts seconds) s a r → r .found ≡ true
-  found s a r f z h pk = ⊎-elim (λ q. q) (λ q. absurd (omega (arith, h, kn .weights, kn .net .few, total-most (λ i. getD ws i 0) 0 (fill (length ws) most-edges) f, edges .long, pk .none q (fill (length ws) most-edges) (record { edges = edges; good = apart; has = λ i x. f≢t (sym (ap (λ (v : List Bool). getD v i false) z ∙ none-has most-edges i) ∙ x) }))))
+  found s a r f z h pk = ⊎-elim (λ q. q) (λ q. absurd (omega (arith, h, kn .weights, kn .net .few, total-most (λ i. getD ws i 0) 0 (fill (length ws) most-edges) f, edges .long, pk .none q (fill (length ws) most-edges) (record { edges = edges; good = apart; has = λ i x. absurd (false≢true (sym (ap (λ (v : List Bool). getD v i false) z ∙ none-has most-edges i) ∙ x)) }))))
       (bool (r .found))

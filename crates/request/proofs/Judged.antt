@@ -24,7 +24,7 @@ use Rattle.request.specs.Pick.{any, earliest}
 use Rattle.request.specs.Raw.{Raw, file}
 use Rattle.request.specs.Tables.{badEdge, badNode, badOrder, badRule, edgesFrom, fencesFrom, leads, listed, nodesFrom, ordersFrom, readingOf, rulesFrom}
 use Rattle.graph.proofs.Says.{Says}
-use Rattle.request.proofs.Basics.{lt-or-ge}
+use Rattle.graph.proofs.Splits.{lt-or-ge}
 use Rattle.request.proofs.Cases.{fences-both, fences-no-from, fences-no-to}
 use Rattle.request.proofs.Faults.{Clean, Fault, From, bad-fault, fault-bad, from-clean, from-up}
 use Rattle.request.proofs.Readings.{end-more, end-stop, end-whole, limits-1, limits-2, limits-3, limits-4, limits-5, read-1, read-2, read-3}

@@ -14,7 +14,7 @@ use borrow.Author.Tests.{eq-eqb, ne-eqb}
 use Rattle.request.specs.Decode.{table}
 use Rattle.request.specs.File.{Bytes}
 use Rattle.request.specs.Layout.{recordAt, run}
-use Rattle.request.proofs.Basics.{lt-or-ge, true-false}
+use Rattle.graph.proofs.Splits.{lt-or-ge, true-false}
 use Rattle.request.proofs.Recorded.{record-short, record-within, run-more, run-stop}
 
 pub record Kind {X : Type 0} (a b z : ℕ) (enc : X → List ℕ) (dec : List ℕ → ℕ → X) : Type 0 where

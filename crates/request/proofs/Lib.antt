@@ -1,5 +1,4 @@
 -- What the code computes, case by case.
-pub mod Basics
 pub mod Recorded
 pub mod Earliest
 pub mod Pairs

@@ -13,7 +13,7 @@ use borrow.Author.Tests.{le-leb, lt-leb}
 use Rattle.request.specs.declared.Counts.{Counts}
 use Rattle.request.specs.Layout.{countsIn, edgesIn, nodesIn, ordersIn, recordAt, rulesIn, run}
 use Rattle.request.specs.Pick.{pick}
-use Rattle.request.proofs.Basics.{lt-or-ge, true-false}
+use Rattle.graph.proofs.Splits.{lt-or-ge, true-false}
 
 pub record-short : (a b z : ℕ) (s : List ℕ) (at : ℕ) → length s < at + z → recordAt a b z s at ≡ false
 unfolding recordAt

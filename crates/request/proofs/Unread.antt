@@ -15,7 +15,7 @@ use Rattle.request.specs.Decode.{rawOf}
 use Rattle.request.specs.File.{Bytes}
 use Rattle.request.specs.Layout.{countsIn, endOf, recordAt}
 use Rattle.request.specs.Raw.{Raw, file, laid, size}
-use Rattle.request.proofs.Basics.{true-false}
+use Rattle.graph.proofs.Splits.{true-false}
 use Rattle.request.proofs.Faults.{bad-unread}
 use Rattle.request.proofs.Kind.{get, get-0, long-at, record-here, record-mark}
 use Rattle.request.proofs.Laid.{end-unmarked, laid-counts, laid-least, laid-rest, raw-laid}

@@ -1,13 +1,13 @@
 -- The two words that the walk carries stay right, step by step: the nodes on the route, and those that are ordered after the first if they come next.
 -- Assumes nothing.
-use mathlib.Core.Bool.{Bool, true, false}
+use mathlib.Core.Bool.{Bool, true, false, true≢false}
 use mathlib.Core.List.{List, [], _∷_, _++_, append-assoc, append-ne-nil-of-right-ne-nil, cons-ne-nil, head-eq-of-cons-eq, tail-eq-of-cons-eq}
 use mathlib.Core.Logic.{_⊎_, inl, inr, ⊎-elim, _≢_}
 use mathlib.Core.Path.{_≡_, refl, sym, ap, ap₂, subst, _∙_}
 use Prim.Native.Nat.{ℕ}
 use lib.ListN.{getD}
 use Rattle.flags.specs.Flag.{flag, put}
-use Rattle.flags.proofs.Digit.{flag-zero, true-false}
+use Rattle.flags.proofs.Digit.{flag-zero}
 use Rattle.flags.proofs.Pair.{either-cases}
 use Rattle.flags.proofs.Put.{put-same, put-other}
 use Rattle.graph.specs.Held.{Absent, Ordered, by-rule, by-way}
@@ -68,7 +68,7 @@ module _ (fits : List ℕ) (a : ℕ) where
 
   pub carried-start : Carried (a ∷ []) [] (put 0 a) (getD fits a 0)
   carried-start = record {
-    new = λ k e. (λ p. true-false (sym (put-same 0 a) ∙ ap (flag (put 0 a)) (sym p) ∙ e), tt);
+    new = λ k e. (λ p. true≢false (sym (put-same 0 a) ∙ ap (flag (put 0 a)) (sym p) ∙ e), tt);
     old = λ k n. put-other 0 a k (n .0) ∙ flag-zero k;
     late = λ k e. by-rule e;
     lates = λ k o. ⊎-elim (λ f. f) (λ (before, m, rest, e, p, f). absurd (append-ne-nil-of-right-ne-nil before (cons-ne-nil m rest) (sym e))) (last-link (Lists fits) o);
@@ -81,7 +81,7 @@ module _ (fits : List ℕ) (a : ℕ) where
       new′ k e = (apart, s .new k (sym (put-other visited v k apart) ∙ e))
         where
           apart : k ≢ v
-          apart p = true-false (sym (put-same visited v) ∙ ap (flag (put visited v)) (sym p) ∙ e)
+          apart p = true≢false (sym (put-same visited v) ∙ ap (flag (put visited v)) (sym p) ∙ e)
 
       old′ : (k : ℕ) → Absent k (v ∷ path) → flag (put visited v) k ≡ false
       old′ k n = put-other visited v k (n .0) ∙ s .old k (n .1)

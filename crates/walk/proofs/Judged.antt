@@ -1,6 +1,6 @@
 -- Flags that tell of each order whether a route is shown, and so whether it is open.
 -- Assumes nothing.
-use mathlib.Core.Bool.{Bool, true, false}
+use mathlib.Core.Bool.{Bool, true, false, true≢false}
 use mathlib.Core.List.{List, []}
 use mathlib.Core.Path.{_≡_, sym, ap, subst⁻¹, _∙_}
 use Prim.Native.Nat.{ℕ, _+_, _≤_, _<_}
@@ -10,7 +10,6 @@ use lib.Dec.{ltb}
 use lib.ListN.{length, take, getD, set}
 use lib.Seq.{getD-set-same, getD-set-other, length-take-le}
 use borrow.Author.Tests.{lt-ltb, le-ltb}
-use Rattle.flags.proofs.Digit.{true-false}
 use Rattle.graph.specs.declared.Graph.{Graph}
 use Rattle.graph.specs.declared.Order.{Order}
 use Rattle.graph.specs.declared.Rule.{Rule}
@@ -50,12 +49,12 @@ judged-more words orders flags i way judged h fits shown j k = go (ℕ-discrete 
 -- ---- a route is shown exactly of an open order
 
 shown-open : {g : Drawn.Graph} {rules : List Rule} {c : List ℕ} {a b : ℕ} (route : List ℕ) → AskedWithout g rules c a b route → ltb 0 (length route) ≡ true → ¬ HeldWithout g rules c a b
-shown-open route (is-held h) e = absurd (true-false (sym e ∙ le-ltb 0 0 (omega arith)))
+shown-open route (is-held h) e = absurd (true≢false (sym e ∙ le-ltb 0 0 (omega arith)))
 shown-open route (is-open {between = l} s) e = λ h. s .unordered (h l (s .route))
 
 unshown-held : {g : Drawn.Graph} {rules : List Rule} {c : List ℕ} {a b : ℕ} (route : List ℕ) → AskedWithout g rules c a b route → ltb 0 (length route) ≡ false → HeldWithout g rules c a b
 unshown-held route (is-held h) e = h
-unshown-held {b = b} route (is-open {between = l} s) e = absurd (true-false (sym (lt-ltb 0 (length route) (omega arith)) ∙ e))
+unshown-held {b = b} route (is-open {between = l} s) e = absurd (true≢false (sym (lt-ltb 0 (length route) (omega arith)) ∙ e))
 
 module _ (g : Graph) (sized : Sized g) where
   pub judged-told : (words : Words) (flags : List Bool) → WordsOf (graphOf g) (rulesOf g) [] words → ((j : ℕ) → j < g .«order_count» → Judged words (g .orders) flags j) → Told g flags

@@ -1,10 +1,10 @@
 -- Soundness: what the search finds goes on to the goal, over no node twice, and leaves the ends unordered.
 -- Assumes nothing.
+use mathlib.Core.Bool.{true≢false}
 use mathlib.Core.List.{List, [], _∷_, _++_, append-assoc, append-nil}
 use mathlib.Core.Path.{_≡_, sym, ap, subst, subst⁻¹, _∙_}
 use Prim.Native.Nat.{ℕ}
 use Rattle.flags.specs.Flag.{flag}
-use Rattle.flags.proofs.Digit.{true-false}
 use Rattle.graph.specs.Held.{Absent, Follows, NoneTwice, Ordered}
 use Rattle.graph.proofs.Walked.{Apart, apart-uncons}
 use Rattle.hope.specs.Rest.{Rest, ends, goes}
@@ -27,7 +27,7 @@ module _ (succ fits : List ℕ) (a goal : ℕ) where
     follows = subst (Lists succ p) g h;
     once = (tt, tt);
     apart = (subst (λ (x : ℕ). Absent x path) g (s .new k f), tt);
-    unordered = λ o. true-false (sym (s .lates goal (subst (λ (t : List ℕ). Ordered (Lists fits) a t goal) (append-nil seen) o)) ∙ ap (flag after) (sym g) ∙ e);
+    unordered = λ o. true≢false (sym (s .lates goal (subst (λ (t : List ℕ). Ordered (Lists fits) a t goal) (append-nil seen) o)) ∙ ap (flag after) (sym g) ∙ e);
   }
   found-onward {path} {seen} {visited} {after} {p} {k} h (goes f g h′ t) s = more (found-onward h′ t (carried-on fits a k s))
     where

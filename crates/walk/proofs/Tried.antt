@@ -1,6 +1,6 @@
 -- What the trial of the edges of a node says of its answer: one law for each way out of `trial`.
 -- Assumes nothing.
-use mathlib.Core.Bool.{true, false}
+use mathlib.Core.Bool.{true, false, true≢false}
 use mathlib.Core.List.{List}
 use mathlib.Core.Logic.{⊎-elim}
 use mathlib.Core.Path.{_≡_, sym, subst, _∙_}
@@ -9,7 +9,6 @@ use native.Mathlib.Decide.{decLt}
 use native.Mathlib.Omega.{arith}
 use lib.ListN.{getD}
 use Rattle.flags.specs.Flag.{flag, put}
-use Rattle.flags.proofs.Digit.{true-false}
 use Rattle.flags.proofs.Put.{put-cases, put-keeps}
 use Rattle.graph.specs.Cut.{First}
 use Rattle.walk.specs.declared.Way.{Way}
@@ -26,7 +25,7 @@ module _ (succ fits : List ℕ) (goal : ℕ) where
     pub dead : (j : ℕ) → flag tried j ≡ true → (l : List ℕ) → Rest succ fits goal visited after j l → ⊥
 
   pub none-tried : (visited after v : ℕ) → Tried visited after v visited
-  none-tried visited after v = record { route = λ j h. h; dead = λ j h l t. true-false (sym h ∙ rest-new succ fits goal t) }
+  none-tried visited after v = record { route = λ j h. h; dead = λ j h l t. true≢false (sym h ∙ rest-new succ fits goal t) }
 
   pub taken : {visited after tried : ℕ} (v k : ℕ) (pre : List ℕ) (r : Way)
       → Lowest (getD succ v 0) tried k
@@ -55,7 +54,7 @@ module _ (succ fits : List ℕ) (goal : ℕ) where
       → Tried visited after v more
   not-taken v k more pre r tr z (found p m eq first) e = absurd (z p)
   not-taken {visited} {after} {tried} v k more pre r tr z (none y nothing) e = rw e record {
-    route = λ j h. tr .route j (unset (λ p. true-false (sym (put-keeps tried k j p) ∙ h)));
+    route = λ j h. tr .route j (unset (λ p. true≢false (sym (put-keeps tried k j p) ∙ h)));
     dead = λ j h l t. ⊎-elim (λ (d : j ≡ k). nothing l (subst (λ (x : ℕ). Rest succ fits goal visited after x l) d t)) (λ p. tr .dead j p l t) (put-cases tried k j h);
   }
 

@@ -1,6 +1,6 @@
 -- What visiting a node says of its answer: one law for each way out of `visit`.
 -- Assumes nothing.
-use mathlib.Core.Bool.{true, false}
+use mathlib.Core.Bool.{true, false, true≢false}
 use mathlib.Core.List.{List, [], _∷_, _++_, append-assoc}
 use mathlib.Core.Logic.{inr}
 use mathlib.Core.Path.{_≡_, refl, sym, ap, _∙_}
@@ -10,7 +10,6 @@ use lib.Count.{ones}
 use lib.ListN.{length, take, set}
 use lib.Seq.{take-suc-set}
 use Rattle.flags.specs.Flag.{flag, put}
-use Rattle.flags.proofs.Digit.{true-false}
 use Rattle.flags.proofs.Put.{put-count}
 use Rattle.graph.specs.Cut.{First}
 use Rattle.walk.specs.declared.Way.{Way}
@@ -23,7 +22,7 @@ longer nodes n m v e h = rw (add-one, e) (take-suc-set nodes m v h)
 
 module _ (succ fits : List ℕ) (goal : ℕ) where
   pub ordered-end : {visited after v : ℕ} {l : List ℕ} → v ≡ goal → flag after v ≡ true → Rest succ fits goal visited after v l → ⊥
-  ordered-end p e (ends f g h) = true-false (sym e ∙ h)
+  ordered-end p e (ends f g h) = true≢false (sym e ∙ h)
   ordered-end p e (goes f g h k) = g p
 
   pub open-end : {visited after v : ℕ} → flag visited v ≡ false → v ≡ goal → flag after v ≡ false → Earliest (Rest succ fits goal visited after v) (v ∷ [])

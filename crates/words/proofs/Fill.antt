@@ -1,6 +1,6 @@
 -- Words filled one at a time: a word flag by flag, a list of words entry by entry, and edge by edge.
 -- Assumes nothing.
-use mathlib.Core.Bool.{Bool, true, false, _&&_, and-false}
+use mathlib.Core.Bool.{Bool, true, false, _&&_, and-false, true≢false}
 use mathlib.Core.List.{List}
 use mathlib.Core.Logic.{_⊎_, inl, inr, ⊎-elim, _↔_}
 use mathlib.Core.Path.{_≡_, refl, sym, ap, ap₂, subst, _∙_}
@@ -12,7 +12,7 @@ use lib.ListN.{length, getD, set, replicate}
 use lib.Seq.{getD-set-same, getD-set-other}
 use borrow.Author.Tests.{lt-ltb, le-ltb}
 use Rattle.flags.specs.Flag.{flag, put}
-use Rattle.flags.proofs.Digit.{true-false, flag-zero}
+use Rattle.flags.proofs.Digit.{flag-zero}
 use Rattle.flags.proofs.Put.{put-same, put-other, put-cases, put-keeps}
 use Rattle.graph.specs.declared.Edge.{Edge}
 use Rattle.graph.specs.Graph.{no-edge}
@@ -80,7 +80,7 @@ module _ (edges : List Edge) where
   Filled i ws = (p q : ℕ) → (listed ws p q ≡ true) ↔ Led edges i p q
 
   pub filled-none : Filled 0 (replicate most-nodes 0)
-  filled-none p q = (λ e. absurd (true-false (sym e ∙ zero-words p q)), λ (j, h, k, f, t). absurd (omega (arith, h)))
+  filled-none p q = (λ e. absurd (true≢false (sym e ∙ zero-words p q)), λ (j, h, k, f, t). absurd (omega (arith, h)))
 
   wider : {i p q : ℕ} → Led edges i p q → Led edges (i + 1) p q
   wider (j, h, k, f, t) = (j, omega (arith, h), k, f, t)

@@ -1,11 +1,11 @@
 -- `hope::hopeful` meets its contract: node by node; the words only fall, and bound every way on.
+use mathlib.Core.Bool.{true≢false}
 use mathlib.Core.Path.{sym, ap, _∙_}
 use Prim.Native.Nat.{ℕ, _*_, _-_, _≤_, _<_, _^_}
 use native.Mathlib.Omega.{arith}
 use borrow.Author.Needs.{needs}
 use borrow.Author.Tests.{not-false}
 use Rattle.flags.specs.Flag.{flag, either, less}
-use Rattle.flags.proofs.Digit.{true-false}
 use Rattle.flags.proofs.Least.{lowest-lt}
 use Rattle.graph.specs.Limits.{most-nodes}
 use Rattle.hope.specs.Rest.{mark}
@@ -71,7 +71,7 @@ has-requires-2 : tie.Need-has-requires-2 Inv-loop μ-loop
 has-requires-2 c κs = search needs
 
 returns-2 : tie.Need-returns-2 Inv-loop μ-loop
-returns-2 c = λ e. absurd (true-false e)
+returns-2 c = λ e. absurd (true≢false e)
 
 returns-3 : tie.Need-returns-3 Inv-loop μ-loop
 returns-3 c =
@@ -145,7 +145,7 @@ loop-again c =
     )
 
 returns-4 : tie.Need-returns-4 Inv-loop μ-loop
-returns-4 c = λ e. absurd (true-false e)
+returns-4 c = λ e. absurd (true≢false e)
 
 pub hopeful-spec : {M : Type 1} → statement M
 hopeful-spec =

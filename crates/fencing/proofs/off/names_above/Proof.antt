@@ -1,10 +1,10 @@
 -- `fencing::off::names_above` meets its contract: order by order.
+use mathlib.Core.Bool.{true≢false}
 use native.Mathlib.Omega.{arith}
 use Prim.Native.Nat.{ℕ, _-_, _<_, _≤_}
 use mathlib.Core.Path.{sym}
 use lib.ListN.{getD}
 use borrow.Author.Count.{below-none, below-more}
-use Rattle.flags.proofs.Digit.{true-false}
 use Rattle.graph.specs.Graph.{no-order}
 use Rattle.graph.specs.Strip.{Names}
 use Rattle.fencing.proofs.Named.{named-all, named-not}
@@ -33,7 +33,7 @@ cast-if1 c = search needs
 returns : tie.Need-returns Inv-loop μ-loop
 returns c =
     let l = c .before .before .before .before in
-    (λ e. named-not (l .before .args .c) (l .before .args .n) (l .before .args .t1) (search needs) (l .loop .k) (search needs) (λ q. omega (arith, q .0, c .if1 .taken)), λ e. absurd (true-false e))
+    (λ e. named-not (l .before .args .c) (l .before .args .n) (l .before .args .t1) (search needs) (l .loop .k) (search needs) (λ q. omega (arith, q .0, c .if1 .taken)), λ e. absurd (true≢false e))
 
 cast-if2 : tie.Need-cast-if2 Inv-loop μ-loop
 cast-if2 c = search needs
@@ -41,7 +41,7 @@ cast-if2 c = search needs
 returns-2 : tie.Need-returns-2 Inv-loop μ-loop
 returns-2 c =
     let l = c .before .before .before .before .before .before in
-    (λ e. named-not (l .before .args .c) (l .before .args .n) (l .before .args .t1) (search needs) (l .loop .k) (search needs) (λ q. omega (arith, q .1, c .if2 .taken)), λ e. absurd (true-false e))
+    (λ e. named-not (l .before .args .c) (l .before .args .n) (l .before .args .t1) (search needs) (l .loop .k) (search needs) (λ q. omega (arith, q .1, c .if2 .taken)), λ e. absurd (true≢false e))
 
 add-k : tie.Need-add-k Inv-loop μ-loop
 add-k c = search needs
@@ -58,7 +58,7 @@ loop-again c =
 returns-3 : tie.Need-returns-3 Inv-loop μ-loop
 returns-3 c =
     let l = c .before in
-    (λ e. absurd (true-false (sym e)), λ e. named-all (l .before .args .c) (l .before .args .n) (l .before .args .t1) (search needs) (λ j h. l .loop .inv .1 j (omega arith)))
+    (λ e. absurd (true≢false (sym e)), λ e. named-all (l .before .args .c) (l .before .args .n) (l .before .args .t1) (search needs) (λ j h. l .loop .inv .1 j (omega arith)))
 
 pub names-above-spec : {M : Type 1} → statement M
 names-above-spec =

@@ -1,10 +1,10 @@
 -- `hope::pairs::known` meets its contract: pair by pair.
+use mathlib.Core.Bool.{true≢false}
 use mathlib.Core.Path.{sym, ap, _∙_}
 use Prim.Native.Nat.{ℕ, _-_, _≤_}
 use lib.ListN.{getD}
 use borrow.Author.Needs.{needs}
 use Rattle.flags.specs.Flag.{less}
-use Rattle.flags.proofs.Digit.{true-false}
 use Rattle.hope.proofs.Left.{none-left}
 use Rattle.hope.proofs.pairs.known.Statement.{statement}
 use Rattle.hope.proofs.pairs.known.Tie as tie
@@ -54,7 +54,7 @@ loop-again : tie.Need-loop-again Inv-loop μ-loop
 loop-again c = search needs
 
 returns-2 : tie.Need-returns-2 Inv-loop μ-loop
-returns-2 c = λ e. absurd (true-false (sym e))
+returns-2 c = λ e. absurd (true≢false (sym e))
 
 pub known-spec : {M : Type 1} → statement M
 known-spec =

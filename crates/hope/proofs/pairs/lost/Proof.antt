@@ -1,7 +1,7 @@
 -- `hope::pairs::lost` meets its contract: only the longer look says that nothing is left.
+use mathlib.Core.Bool.{true≢false}
 use mathlib.Core.Path.{sym}
 use borrow.Author.Tests.{not-true}
-use Rattle.flags.proofs.Digit.{true-false}
 use borrow.Author.Needs.{needs}
 use Rattle.hope.proofs.pairs.lost.Statement.{statement}
 use Rattle.hope.proofs.pairs.lost.Tie as tie
@@ -16,7 +16,7 @@ hopeful-requires : tie.Need-hopeful-requires
 hopeful-requires c κs = search needs
 
 returns : tie.Need-returns
-returns c = λ e. absurd (true-false (sym e))
+returns c = λ e. absurd (true≢false (sym e))
 
 some-way-requires : tie.Need-some-way-requires
 some-way-requires c κs = search needs

@@ -1,4 +1,5 @@
 -- `hope::pairs::some_way` meets its contract: pair by pair, way by way.
+use mathlib.Core.Bool.{true≢false}
 use mathlib.Core.Logic.{⊎-elim}
 use mathlib.Core.Path.{refl, sym, _∙_}
 use Prim.Native.Nat.{_-_, _<_, _^_}
@@ -7,7 +8,6 @@ use lib.Count.{ones}
 use lib.ListN.{replicate}
 use borrow.Author.Needs.{needs}
 use borrow.Author.Tests.{not-false}
-use Rattle.flags.proofs.Digit.{true-false}
 use Rattle.graph.specs.Limits.{most-nodes}
 use Rattle.hope.specs.Hope.{most-pairs}
 use Rattle.hope.proofs.Left.{Lowest, lowest-left, none-left, done-count}
@@ -88,13 +88,13 @@ has-requires : tie.Need-has-requires Inv-loop2 μ-loop2 Inv-loop μ-loop
 has-requires c κs = search needs
 
 returns : tie.Need-returns Inv-loop2 μ-loop2 Inv-loop μ-loop
-returns c = λ e. absurd (true-false e)
+returns c = λ e. absurd (true≢false e)
 
 known-requires : tie.Need-known-requires Inv-loop2 μ-loop2 Inv-loop μ-loop
 known-requires c κs = turn (c .before .before .before .before .before .before) .loop2 .inv .1 .sifted .few
 
 returns-2 : tie.Need-returns-2 Inv-loop2 μ-loop2 Inv-loop μ-loop
-returns-2 c = λ e. absurd (true-false e)
+returns-2 c = λ e. absurd (true≢false e)
 
 mul-nodes : tie.Need-mul-nodes Inv-loop2 μ-loop2 Inv-loop μ-loop
 mul-nodes c = search needs

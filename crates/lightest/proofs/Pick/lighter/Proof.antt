@@ -5,7 +5,7 @@ use mathlib.Core.Path.{refl}
 use borrow.Author.Needs.{needs}
 use borrow.Author.Tests.{not-true, not-false}
 use Rattle.lightest.proofs.Diff.{pos-taken, pos-left}
-use Rattle.lightest.proofs.Facts.{true-false}
+use Rattle.graph.proofs.Splits.{true-false}
 use Rattle.lightest.proofs.Pick.lighter.Statement.{statement}
 use Rattle.lightest.proofs.Pick.lighter.Tie as tie
 

@@ -1,8 +1,8 @@
 -- Case splits on numbers and on Booleans.
 -- Assumes nothing.
-use mathlib.Core.Bool.{Bool, true, false}
+use mathlib.Core.Bool.{Bool, true, false, true≢false}
 use mathlib.Core.Logic.{_⊎_, inl, inr}
-use mathlib.Core.Path.{_≡_, refl}
+use mathlib.Core.Path.{_≡_, refl, sym, _∙_}
 use Prim.Native.Nat.{ℕ, _<_, _≤_}
 use native.Mathlib.Decide.{decLe}
 use native.Mathlib.Omega.{arith}
@@ -26,11 +26,5 @@ pub bool : (b : Bool) → (b ≡ true) ⊎ (b ≡ false)
 bool true = inl refl
 bool false = inr refl
 
-pub true-false : {b : Bool} → b ≡ true → b ≡ false → ⊥
-true-false {b} p q = let z : _≡_ {A = ℕ} 0 1 = cc in omega arith
-
-pub t≢f : {X : Type 0} → true ≡ false → X
-t≢f e = absurd (true-false {b = true} refl e)
-
-pub f≢t : {X : Type 0} → false ≡ true → X
-f≢t e = absurd (true-false {b = false} e refl)
+pub true-false : {X : Type 0} {b : Bool} → b ≡ true → b ≡ false → X
+true-false p q = absurd (true≢false (sym p ∙ q))
