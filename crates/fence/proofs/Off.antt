@@ -14,7 +14,7 @@ use Rattle.graph.specs.Graph.{Graph}
 use Rattle.graph.specs.Strip.{StripTo}
 use Rattle.request.specs.Answers.{rank}
 use Rattle.request.specs.File.{Request, bytes}
-use Rattle.request.specs.Pick.{earliest}
+use Rattle.request.specs.Earliest.{earliest}
 use Rattle.fence.proofs.Reading.{reads-clean, reads-unique}
 use Rattle.graph.proofs.Strip.{place, stripped-unique}
 

@@ -14,7 +14,7 @@ use Rattle.graph.specs.Cut.{ChosenCut, weight}
 use Rattle.graph.specs.Limits.{most-edges, most-nodes}
 use Rattle.request.specs.Answers.{rank}
 use Rattle.request.specs.File.{Request}
-use Rattle.request.specs.Pick.{earliest}
+use Rattle.request.specs.Earliest.{earliest}
 use Rattle.fence.proofs.Reading.{reads-clean, reads-unique}
 use Rattle.graph.proofs.Strip.{place}
 use Rattle.graph.proofs.Unique.{best-unique}

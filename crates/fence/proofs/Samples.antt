@@ -17,7 +17,7 @@ use Rattle.graph.specs.Samples.{Claim, D-of, D-orders, D-rules, Sample, asked, 
 use Rattle.graph.specs.Written.{written}
 use Rattle.request.specs.File.{Request, bytes, request}
 use Rattle.request.specs.Layout.{edgesIn, endCheck, limitsOf, nodesIn, ordersIn, recordAt, rulesIn, run}
-use Rattle.request.specs.Pick.{any, earliestFrom}
+use Rattle.request.specs.Earliest.{any, earliestFrom}
 use Rattle.request.specs.Tables.{badEdge, badLeft, badNode, badOrder, badRight, badRule, edgesFrom, fencesFrom, leads, listed, nodesFrom, ordersFrom, readingOf, repeated, rulesFrom, samePair}
 use Rattle.fence.proofs.Demands.{demand-2, run-idle}
 use Rattle.fence.proofs.Off.{strip-accepted, strip-stuck}

@@ -16,7 +16,7 @@ use Rattle.graph.specs.Graph.{order}
 use Rattle.graph.specs.Limits.{most-nodes}
 use Rattle.request.specs.Answers.{number, rank}
 use Rattle.request.specs.File.{Request}
-use Rattle.request.specs.Pick.{earliest}
+use Rattle.request.specs.Earliest.{earliest}
 use Rattle.fence.proofs.Reading.{reads-clean, reads-unique}
 use Rattle.graph.proofs.Strip.{place}
 

@@ -15,7 +15,7 @@ use Rattle.graph.specs.Refusal.{Refused}
 use Rattle.request.specs.Answers.{number, rank}
 use Rattle.request.specs.Bad.{Bad, beyond, unfenced, unread, wrong-edge, wrong-node, wrong-order, wrong-rule}
 use Rattle.request.specs.Outcome.{Answered}
-use Rattle.request.specs.Pick.{earliest}
+use Rattle.request.specs.Earliest.{earliest}
 use Rattle.graph.proofs.Strip.{place}
 use Rattle.request.specs.declared.Reading.the-variants as reading
 

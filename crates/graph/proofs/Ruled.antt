@@ -1,6 +1,6 @@
 -- A rule's test is right: it passes exactly when one assignment serves both sides. And a scan of the rules goes one at a time.
 -- Assumes nothing.
-use mathlib.Core.Bool.{Bool, false, true, _||_, true≢false}
+use mathlib.Core.Bool.{Bool, false, true, _||_, true≢false, cond}
 use mathlib.Core.List.{List, [], _∷_}
 use mathlib.Core.Path.{_∙_, _≡_, refl, subst, sym, ap}
 use Prim.Native.Nat.{_<_, _≤_, suc, zero, ℕ}
@@ -36,22 +36,18 @@ matches-is σ (Is Fence) (Store a) = refl
 matches-is σ (Is Fence) (Load a) = refl
 matches-is σ (Is Fence) Fence = refl
 
-abbrev pick : Bool → ℕ → ℕ → ℕ
-pick true m n = m
-pick false m n = n
-
 one-for-both : (x m y n : ℕ) → T (ifSame (eqb x y) (eqb m n)) → (σ : ℕ → ℕ) × (σ x ≡ m) × (σ y ≡ n)
 one-for-both x m y n t = (
-  (λ v. pick (eqb v x) m n),
-  ap (λ (b : Bool). pick b m n) (eq-eqb x x refl),
+  (λ v. cond (eqb v x) m n),
+  ap (λ (b : Bool). cond b m n) (eq-eqb x x refl),
   go (eqb x y) refl,
 )
   where
-    go : (b : Bool) → eqb x y ≡ b → pick (eqb y x) m n ≡ n
+    go : (b : Bool) → eqb x y ≡ b → cond (eqb y x) m n ≡ n
     go true h =
         let mn : m ≡ n = eqb→eq m n (subst (λ (b : Bool). T (ifSame b (eqb m n))) h t) in
-        ap (λ (b : Bool). pick b m n) (eq-eqb y x (sym (eqb-true x y h))) ∙ mn
-    go false h = ap (λ (b : Bool). pick b m n) (ne-eqb y x (λ k. eqb-false x y h (sym k)))
+        ap (λ (b : Bool). cond b m n) (eq-eqb y x (sym (eqb-true x y h))) ∙ mn
+    go false h = ap (λ (b : Bool). cond b m n) (ne-eqb y x (λ k. eqb-false x y h (sym k)))
 
 -- variables that are the same have to have the same address
 two-for-one : (x m y n : ℕ) (σ : ℕ → ℕ) → σ x ≡ m → σ y ≡ n → T (ifSame (eqb x y) (eqb m n))

@@ -13,7 +13,7 @@ use Rattle.request.specs.declared.Answer.the-variants.{BadEdge, BadNode,
 use Rattle.request.specs.declared.Counts.{Counts}
 use Rattle.request.specs.declared.Reading.{Reading}
 use Rattle.request.specs.declared.Reading.the-variants.{Refused, Whole}
-use Rattle.request.specs.Pick.{any, earliest}
+use Rattle.request.specs.Earliest.{any, earliest}
 use Rattle.request.specs.Tables.{badEdge, badLeft, badNode, badOrder, badRight, badRule, edgesAt, edgesFrom, fencesFrom, firstOf, fromOf, leads, listed, nodesFrom, ordersAt, ordersFrom, repeated, ruleByte, rulesFrom, samePair, secondOf, toOf, weightOf, word}
 
 module _ (s : List ℕ) (i : ℕ) where

@@ -1,18 +1,18 @@
 -- The earliest number that passes a test, and whether some number does.
 -- Assumes nothing.
-use mathlib.Core.Bool.{Bool, _||_, false, true}
+use mathlib.Core.Bool.{Bool, _||_, false, true, cond}
 use mathlib.Core.Path.{_∙_, _≡_, ap, refl, sym}
 use Prim.Native.Nat.{_+_, _<_, _≤_, suc, zero, ℕ}
 use native.Mathlib.Decide.{ℕ-discrete}
 use native.Mathlib.Omega.{arith}
-use Rattle.request.specs.Pick.{any, earliest, earliestFrom, pick}
+use Rattle.request.specs.Earliest.{any, earliest, earliestFrom}
 
 earliestFrom-is : (p : ℕ → Bool) (n i j : ℕ) → i ≤ j → j < i + n → ((k : ℕ) → k < j → p k ≡ false) → p j ≡ true → earliestFrom p n i ≡ j
 unfolding earliestFrom
 earliestFrom-is p zero i j l h f e = absurd (omega arith)
 earliestFrom-is p (suc n) i j l h f e = go (ℕ-discrete i j) (λ m. earliestFrom-is p n (suc i) j m (omega arith) f e)
   where
-    go : Dec (i ≡ j) → (suc i ≤ j → earliestFrom p n (suc i) ≡ j) → pick (p i) i (earliestFrom p n (suc i)) ≡ j
+    go : Dec (i ≡ j) → (suc i ≤ j → earliestFrom p n (suc i) ≡ j) → cond (p i) i (earliestFrom p n (suc i)) ≡ j
     go (yes q) rec = let r : p i ≡ true = ap p q ∙ e in rw r q
     go (no q) rec = rw (f i (omega (arith, q))) (rec (omega (arith, q)))
 

@@ -20,7 +20,7 @@ use Rattle.request.specs.Bad.{Bad, Leads, Listed, Unread, WrongEdge, Wro
 use Rattle.request.specs.Decode.{rawOf}
 use Rattle.request.specs.File.{Bytes}
 use Rattle.request.specs.Layout.{countsIn, endOf, layoutOf, limitsOf, recordAt}
-use Rattle.request.specs.Pick.{any, earliest}
+use Rattle.request.specs.Earliest.{any, earliest}
 use Rattle.request.specs.Raw.{Raw, file}
 use Rattle.request.specs.Tables.{badEdge, badNode, badOrder, badRule, edgesFrom, fencesFrom, leads, listed, nodesFrom, ordersFrom, readingOf, rulesFrom}
 use Rattle.graph.proofs.Says.{Says}

@@ -1,6 +1,6 @@
 -- A record at an offset, and a run of records.
 -- Assumes nothing.
-use mathlib.Core.Bool.{false, true}
+use mathlib.Core.Bool.{false, true, cond}
 use mathlib.Core.List.{List}
 use mathlib.Core.Logic.{⊎-elim}
 use mathlib.Core.Path.{_∙_, _≡_, refl}
@@ -12,14 +12,13 @@ use lib.ListN.{getD, length}
 use borrow.Author.Tests.{le-leb, lt-leb}
 use Rattle.request.specs.declared.Counts.{Counts}
 use Rattle.request.specs.Layout.{countsIn, edgesIn, nodesIn, ordersIn, recordAt, rulesIn, run}
-use Rattle.request.specs.Pick.{pick}
 use Rattle.graph.proofs.Splits.{lt-or-ge, true-false}
 
 pub record-short : (a b z : ℕ) (s : List ℕ) (at : ℕ) → length s < at + z → recordAt a b z s at ≡ false
 unfolding recordAt
 record-short a b z s at h = simp (lt-leb _ _ h)
 
-pub record-within : (a b z : ℕ) (s : List ℕ) (at : ℕ) → at + z ≤ length s → recordAt a b z s at ≡ pick (eqb (getD s at 0) a) (eqb (getD s (at + 1) 0) b) false
+pub record-within : (a b z : ℕ) (s : List ℕ) (at : ℕ) → at + z ≤ length s → recordAt a b z s at ≡ cond (eqb (getD s at 0) a) (eqb (getD s (at + 1) 0) b) false
 unfolding recordAt
 record-within a b z s at h = simp (le-leb _ _ h)
 

@@ -11,7 +11,7 @@ use Rattle.graph.specs.Samples.{D-of, D-orders, D-rules, fence-rules, or}
 use Rattle.request.specs.File.{Request, bytes, request}
 use Rattle.request.specs.Layout.{edgesIn, endCheck, limitsOf, nodesIn, ordersIn, recordAt, rulesIn, run}
 use Rattle.request.specs.Outcome.{Answered}
-use Rattle.request.specs.Pick.{any, earliestFrom}
+use Rattle.request.specs.Earliest.{any, earliestFrom}
 use Rattle.request.specs.Tables.{badEdge, badLeft, badNode, badOrder, badRight, badRule, edgesFrom, fencesFrom, leads, listed, nodesFrom, ordersFrom, readingOf, repeated, rulesFrom, samePair}
 use Rattle.request.proofs.Computed.{read-as}
 

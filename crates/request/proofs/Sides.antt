@@ -1,6 +1,6 @@
 -- Labels, sides and rules, and the numbers that stand for them, there and back.
 -- Assumes nothing.
-use mathlib.Core.Bool.{Bool, false, true}
+use mathlib.Core.Bool.{Bool, false, true, cond}
 use mathlib.Core.List.{[], _∷_}
 use mathlib.Core.Logic.{_≢_, _⊎_, inl, inr}
 use mathlib.Core.Path.{_≡_, refl, sym}
@@ -16,7 +16,6 @@ use Rattle.graph.specs.declared.Side.the-variants.{Any, Is}
 use Rattle.request.specs.Bad.{WrongNode, WrongRule}
 use Rattle.request.specs.Decode.{label-of, labelOf, raw-label, raw-rule, raw-side, rawed, rule-of, sideOf, understood}
 use Rattle.request.specs.File.{Request, bytes, node-bytes, rule-bytes, side-bytes}
-use Rattle.request.specs.Pick.{pick}
 use Rattle.request.specs.Proper.{Addressed, Formed, FormedLeft, FormedRight, HasVariable}
 use Rattle.request.specs.Raw.{RawNode, RawRule, file, raw-node-bytes, raw-rule-bytes}
 use Rattle.graph.proofs.Says.{decide, says-eq, stable}
@@ -144,7 +143,7 @@ module _ (r : RawRule) (b : WrongRule r → ⊥) where
 pub label-addressed : (k a : ℕ) → a < 256 → Addressed (labelOf k a)
 label-addressed k a h = go (eqb k 0) (eqb k 1)
   where
-    go : (x y : Bool) → Addressed (pick x (Store a) (pick y (Load a) Fence))
+    go : (x y : Bool) → Addressed (cond x (Store a) (cond y (Load a) Fence))
     go true y = h
     go false true = h
     go false false = tt

@@ -11,7 +11,7 @@ use Rattle.request.specs.declared.Answer.{Answer}
 use Rattle.request.specs.declared.Reading.{Reading}
 use Rattle.request.specs.declared.Reading.the-variants.{Refused}
 use Rattle.request.specs.Bad.{Listed}
-use Rattle.request.specs.Pick.{earliest}
+use Rattle.request.specs.Earliest.{earliest}
 use Rattle.request.specs.Tables.{listed}
 use Rattle.graph.proofs.Says.{Says}
 use Rattle.request.proofs.Cases.{listed-bad, listed-good}

@@ -13,7 +13,7 @@ use Rattle.request.specs.declared.Counts.{Counts}
 use Rattle.graph.specs.Graph.{no-edge, order}
 use Rattle.request.specs.Bad.{Leads, WrongEdge, WrongNode, WrongOrder, WrongRule, no-node, no-rule}
 use Rattle.request.specs.Decode.{edgeAt, nodeAt, orderAt, ruleAt, table}
-use Rattle.request.specs.Pick.{any}
+use Rattle.request.specs.Earliest.{any}
 use Rattle.request.specs.Tables.{badEdge, badLeft, badNode, badOrder, badRight, badRule, edgesAt, firstOf, fromOf, leads, ordersAt, repeated, ruleByte, rulesAt, samePair, secondOf, toOf, weightOf, word}
 use Rattle.graph.proofs.Says.{Says, says-and, says-eq, says-le, says-lt, says-not, says-or, someBelow, says-below}
 use Rattle.request.proofs.Records.{edge-at, len-rules, node-at, order-at, rule-at}

@@ -1,5 +1,6 @@
 -- The request in a file's bytes: record i of a mark stands at a computed offset.
 -- Assumes nothing.
+use mathlib.Core.Bool.{cond}
 use mathlib.Core.List.{List, [], _∷_, map}
 use mathlib.Core.Path.{_≡_}
 use Prim.Native.Nat.{ℕ, zero, suc, _+_}
@@ -18,7 +19,6 @@ use Rattle.graph.specs.Value.{graphOf, rulesOf, ordersOf, Sized, Roomy}
 use Rattle.request.specs.declared.Counts.{Counts}
 use Rattle.request.specs.File.{Request}
 use Rattle.request.specs.Raw.{RawNode, RawRule, Raw}
-use Rattle.request.specs.Pick.{pick}
 use Rattle.request.specs.Tables.{word, edgesAt, rulesAt, ordersAt}
 
 -- the record at an offset. ND: kind, address
@@ -53,11 +53,11 @@ rawOf s cs = record {
 
 -- what the numbers mean
 abbrev pub labelOf : ℕ → ℕ → Label
-labelOf kind address = pick (eqb kind 0) (Store address) (pick (eqb kind 1) (Load address) Fence)
+labelOf kind address = cond (eqb kind 0) (Store address) (cond (eqb kind 1) (Load address) Fence)
 
 -- "3 is the wildcard and stands only in rules"
 abbrev pub sideOf : ℕ → ℕ → Side
-sideOf kind variable = pick (eqb kind 3) Any (Is (labelOf kind variable))
+sideOf kind variable = cond (eqb kind 3) Any (Is (labelOf kind variable))
 
 -- the label of a node record
 abbrev pub label-of : RawNode → Label

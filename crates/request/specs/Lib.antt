@@ -6,7 +6,7 @@ pub mod Bad
 pub mod Proper
 pub mod Outcome
 -- The code's side: the same by offsets and tests that compute.
-pub mod Pick
+pub mod Earliest
 pub mod Layout
 pub mod Tables
 pub mod Decode

@@ -1,6 +1,6 @@
 -- Answers 3 to 7 as they are computed: what is wrong with a node, an edge, a rule, an order, which rules are missing, and the whole reading.
 -- Assumes nothing.
-use mathlib.Core.Bool.{Bool, not, _&&_, _||_}
+use mathlib.Core.Bool.{Bool, not, _&&_, _||_, cond}
 use mathlib.Core.List.{List}
 use Prim.Native.Nat.{ℕ, _+_, _*_}
 use lib.Dec.{leb, ltb, eqb}
@@ -11,7 +11,7 @@ use Rattle.request.specs.declared.Counts.{Counts}
 use Rattle.request.specs.declared.Reading.{Reading}
 use Rattle.request.specs.declared.Reading.the-variants.{Whole, Refused}
 use Rattle.request.specs.Layout.{layoutOf, limitsOf}
-use Rattle.request.specs.Pick.{pick, earliest, any}
+use Rattle.request.specs.Earliest.{earliest, any}
 
 -- a number of two bytes, the low one first
 abbrev pub word : List ℕ → ℕ → ℕ
@@ -92,11 +92,11 @@ leads s cs left right i = eqb (ruleByte s cs i 2) left && eqb (ruleByte s cs i 4
 
 -- an answer where one of the n records of a kind, the first of them numbered `start`, is the first bad one; and else what follows
 unfoldable pub listed : Answer → ℕ → ℕ → ℕ → Reading → Reading
-listed answer start i n later = pick (ltb i n) (Refused answer (start + i)) later
+listed answer start i n later = cond (ltb i n) (Refused answer (start + i)) later
 
 -- answer 7: wildcard to fence and fence to wildcard
 unfoldable pub fencesFrom : List ℕ → Counts → Reading
-fencesFrom s cs = pick (any (leads s cs 3 2) (cs .rules) && any (leads s cs 2 3) (cs .rules)) (Whole cs) (Refused NoFenceRules 0)
+fencesFrom s cs = cond (any (leads s cs 3 2) (cs .rules) && any (leads s cs 2 3) (cs .rules)) (Whole cs) (Refused NoFenceRules 0)
 
 -- answer 6, and then 7
 unfoldable pub ordersFrom : List ℕ → Counts → Reading

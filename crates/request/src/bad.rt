@@ -5,7 +5,7 @@ ghost use mathlib.Core.Path.{_≡_};
 ghost use Prim.Native.Nat.{_+_, _*_, _<_, _≤_};
 ghost use lib.ListN.{length};
 ghost use Rattle.request.specs.Layout.{endOf};
-ghost use Rattle.request.specs.Pick.{earliest};
+ghost use Rattle.request.specs.Earliest.{earliest};
 ghost use Rattle.request.specs.Tables.{badNode, badEdge, badLeft, badRight, badRule, badOrder};
 
 fn bad_node(file: &[u8], i: usize) -> bool

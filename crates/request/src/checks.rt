@@ -7,7 +7,7 @@ ghost use mathlib.Core.Path.{_≡_};
 ghost use Prim.Native.Nat.{_+_, _<_};
 ghost use lib.ListN.{length};
 ghost use Rattle.request.specs.Layout.{endOf};
-ghost use Rattle.request.specs.Pick.{any};
+ghost use Rattle.request.specs.Earliest.{any};
 ghost use Rattle.request.specs.Tables.{leads, nodesFrom, edgesFrom, rulesFrom, ordersFrom, fencesFrom};
 
 fn rule_leads(file: &[u8], counts: Counts, left: u8, right: u8, i: usize) -> bool

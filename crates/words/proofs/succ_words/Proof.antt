@@ -35,16 +35,22 @@ mul-with : tie.Need-mul-with Inv-loop μ-loop
 mul-with c = search needs
 
 array-read-with : tie.Need-array-read-with Inv-loop μ-loop
-array-read-with c = c .before .before .before .before .before .pre .1 (c .before .before .before .before .loop .i) (c .before .before .before .loop-test .taken) .0
+array-read-with c =
+    let ends = c .before .before .before .before .before .pre .1 (c .before .before .before .before .loop .i) (c .before .before .before .loop-test .taken) in
+    omega (arith, ends .0, ends .1)
 
 with-requires : tie.Need-with-requires Inv-loop μ-loop
-with-requires c κs = c .before .before .before .before .before .pre .1 (c .before .before .before .before .loop .i) (c .before .before .before .loop-test .taken) .1
+with-requires c κs =
+    let ends = c .before .before .before .before .before .pre .1 (c .before .before .before .before .loop .i) (c .before .before .before .loop-test .taken) in
+    omega (arith, ends .0, ends .1)
 
 mul-words : tie.Need-mul-words Inv-loop μ-loop
 mul-words c = search needs
 
 array-write-words : tie.Need-array-write-words Inv-loop μ-loop
-array-write-words c = c .before .before .before .before .before .before .pre .1 (c .before .before .before .before .before .loop .i) (c .before .before .before .before .loop-test .taken) .0
+array-write-words c =
+    let ends = c .before .before .before .before .before .before .pre .1 (c .before .before .before .before .before .loop .i) (c .before .before .before .before .loop-test .taken) in
+    omega (arith, ends .0, ends .1)
 
 add-i : tie.Need-add-i Inv-loop μ-loop
 add-i c = search needs
@@ -59,7 +65,7 @@ loop-again c =
     let e = getD (s .args .t1) (l .i) no-edge in
     let room : e .from < length (l .words) = rw (l .inv .1) (s .pre .1 (l .i) (c .before .before .before .before .loop-test .taken) .0) in (
       search needs,
-      length-set (l .words) (e .from) (c .with .result) ∙ l .inv .1,
+      length-set (l .words) _ (c .with .result) ∙ l .inv .1,
       rw (c .with .ensures) (filled-put (s .args .t1) (l .i) (l .words) (e .from) (e .to) (l .inv .2) refl refl room (search needs)),
     )
 

@@ -1,17 +1,12 @@
--- Choosing by a test, the earliest number that passes one, and whether some number does.
+-- The earliest number that passes a test, and whether some number does.
 -- Assumes nothing.
-use mathlib.Core.Bool.{Bool, true, false, _||_}
+use mathlib.Core.Bool.{Bool, false, _||_, cond}
 use Prim.Native.Nat.{ℕ, zero, suc}
-
--- the one where the test passes, else the other
-abbrev pub pick {ℓ} : {A : Type ℓ} → Bool → A → A → A
-pick true a b = a
-pick false a b = b
 
 -- the earliest of the n numbers from i on that passes p; i + n where none does
 unfoldable pub earliestFrom : (ℕ → Bool) → ℕ → ℕ → ℕ
 earliestFrom p zero i = i
-earliestFrom p (suc n) i = pick (p i) i (earliestFrom p n (suc i))
+earliestFrom p (suc n) i = cond (p i) i (earliestFrom p n (suc i))
 
 -- the earliest number below n that passes p; n where none does
 abbrev pub earliest : (ℕ → Bool) → ℕ → ℕ
