@@ -10,17 +10,17 @@ use graph::Graph;
 
 // The ends and the weights of the edges, a list for each.
 pub struct Lists {
-    pub from: [u8; Graph::EDGES],
-    pub to: [u8; Graph::EDGES],
+    pub from: [u16; Graph::EDGES],
+    pub to: [u16; Graph::EDGES],
     pub weights: [u16; Graph::EDGES],
 }
 
 // A node's number in a byte.
-pub fn narrow(x: u16) -> u8
-    requires { ⌜ x < 256 ⌝ }
+pub fn narrow(x: u16) -> u16
+    requires { ⌜ x < 65536 ⌝ }
     ensures { λ r. ⌜ r ≡ x ⌝ }
 {
-    x as u8
+    x
 }
 
 // The first n edges. The array's length is told back: as a field of a graph it is not known.
@@ -29,8 +29,8 @@ pub fn copied(edges: [Edge; Graph::EDGES], n: usize) -> Lists
     ensures { λ r. ⌜ (length edges ≡ most-edges) × Copied edges (r .from) (r .to) (r .weights) n ⌝ }
 {
     let mut l = Lists {
-        from: [0u8; Graph::EDGES],
-        to: [0u8; Graph::EDGES],
+        from: [0u16; Graph::EDGES],
+        to: [0u16; Graph::EDGES],
         weights: [0u16; Graph::EDGES],
     };
     let mut e = 0;

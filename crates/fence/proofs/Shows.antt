@@ -10,7 +10,6 @@ use Rattle.fence.specs.declared.Shown.{Shown}
 use Rattle.graph.specs.declared.Order.{Order}
 use Rattle.request.specs.declared.Answer.{Answer}
 use Rattle.request.specs.declared.Answer.the-variants.{NoSuchOrder, ShortBuffer}
-use Rattle.words.specs.declared.Words.{Words}
 use Rattle.fence.specs.Outcome.{AskOutcome, Reads}
 use Rattle.fence.specs.Ready.{Ready}
 use Rattle.graph.specs.Ask.{Asked}
@@ -51,10 +50,10 @@ module _ (g : Value.Graph) (ready : Ready g) (k : ℕ) (o : List ℕ) where
         let n : length ((graphOf g) .nodes) ≤ most-nodes = ready .proper .few-nodes in
         subst (λ (x : Order). (x .first < most-nodes) × (x .second < most-nodes)) order-is (omega (arith, e .0), omega (arith, e .1))
 
-    pub route-shown : most-nodes ≤ length o → (words : Words) → WordsOf (graphOf g) (rulesOf g) [] words → (route : List ℕ)
-        → AskedOf words ((getD (g .orders) k no-order) .first) ((getD (g .orders) k no-order) .second) route → (o′ : List ℕ) (n m : ℕ) → n ≡ m → length route ≡ m → o′ ≡ route ++ drop m o
+    pub route-shown : most-nodes ≤ length o → (succ fits : List ℕ) → WordsOf (graphOf g) (rulesOf g) [] succ fits → (route : List ℕ)
+        → AskedOf succ fits ((getD (g .orders) k no-order) .first) ((getD (g .orders) k no-order) .second) route → (o′ : List ℕ) (n m : ℕ) → n ≡ m → length route ≡ m → o′ ≡ route ++ drop m o
         → (s : List ℕ) → Reads s (requestIn g) → AskOutcome s k o (record { answer = 0; place = 0; length = n }) o′
-    route-shown h words of route shown o′ n m e l f s reads =
+    route-shown h succ fits of route shown o′ n m e l f s reads =
         ask-accepted s (requestIn g) k reads o (omega (arith, orders)) h route
         (subst⁻¹ (λ (x : Order). Asked (graphOf g) (rulesOf g) x route) order-is (shown (graphOf g) (rulesOf g) [] of)) _ o′
         (λ i. record { answer = 0; place = 0; length = (e ∙ sym l) i })

@@ -43,7 +43,7 @@ fencedFile q c = bytes (withGraph q (written (q .graph) c))
 -- which of run's answers apply where: 1 to 7, 9 and 11
 pub data RunBad (s : List ℕ) (room : ℕ) : Answer → ℕ → Type 0 where
   in-file : {a : Answer} {p : ℕ} → Bad s a p → RunBad s room a p
-  -- "run: nodes plus cut edges above 64, or edges plus cut edges above 192"
+  -- "run: nodes plus cut edges above 512, or edges plus cut edges above 1,024"
   no-room : (q : Request) (c : List ℕ) → Reads s q → ChosenCut (q .graph) (q .rules) (q .orders) c
       → (most-nodes < length (q .graph .nodes) + length c) ⊎ (most-edges < length (q .graph .edges) + length c) → RunBad s room NoRoom 0
   -- "output shorter than what must be written"
@@ -67,7 +67,7 @@ pub data AskBad (s : List ℕ) (k room : ℕ) : Answer → ℕ → Type 0 where
   in-file : {a : Answer} {p : ℕ} → Bad s a p → AskBad s k room a p
   -- "ask: no such order number"
   no-such-order : (q : Request) → Reads s q → length (q .orders) ≤ k → AskBad s k room NoSuchOrder 0
-  -- "ask: buffer below 64 entries"
+  -- "ask: buffer below 512 entries"
   too-short : room < most-nodes → AskBad s k room ShortBuffer 0
 
 -- "Ask returns: answer, place, route length (the number of its nodes), and writes the node numbers of the route to a lent buffer of 16-bit numbers."

@@ -36,9 +36,10 @@ pub fn ask(g: Graph, order: u64, route: &mut [u16]) -> Shown
     if route.len() < Graph::NODES {
         return unshown(Answer::ShortBuffer, 0);
     }
-    let words = words::words_of(g);
+    let succ = words::succ_of(g);
+    let fits = words::fits_of(g);
     let o = g.orders[order as usize];
-    let way = walk::open_route(words, o.first as usize, o.second as usize);
+    let way = walk::open_route(&succ, &fits, o.first as usize, o.second as usize);
     let nodes = way.nodes;
     let length = put_route(route, nodes, way.len);
     Shown {

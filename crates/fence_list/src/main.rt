@@ -76,13 +76,13 @@ fn written(file: &[u8], k: u64) {
 }
 
 fn list(file: &[u8]) {
-    let mut out = io::buffer();
+    let mut out = io::large_buffer();
     let r = fence::fence_run(file, &mut out);
     four(r.answer, r.place, r.fences, r.weight);
     space();
     number(r.length);
     line();
-    if r.length <= 4096 {
+    if r.length <= 65536 {
         let n = io::count(r.length as isize, &out);
         written(&out[..n], r.fences);
     }

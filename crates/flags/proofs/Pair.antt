@@ -1,7 +1,7 @@
 -- The words of two words: the flags of either, of both, and of one and not the other.
 -- Assumes nothing.
-use mathlib.Core.Bool.{Bool, true, false}
-use mathlib.Core.Logic.{_⊎_, inl, inr}
+use mathlib.Core.Bool.{Bool, true, false, _&&_, _||_, true≢false}
+use mathlib.Core.Logic.{_⊎_, inl, inr, ⊎-elim}
 use mathlib.Core.Path.{_≡_, refl, sym, ap, ap₂, _∙_}
 use Prim.Native.Nat.{ℕ, zero, suc, _/_, _%_, _^_, _<_, min, max}
 use native.Mathlib.Nat.{mod-lt, zero-lt-suc}
@@ -72,3 +72,35 @@ less-out a b k q = by (flag a k) refl
     by : (x : Bool) → flag a k ≡ x → flag (less a b) k ≡ false
     by true p = clear-flag (less a b) k (digit-less a b k 1 1 (flag-set a k p) (flag-set b k q))
     by false p = clear-flag (less a b) k (digit-less a b k 0 1 (flag-clear a k p) (flag-set b k q))
+
+-- ---- the same as one equation
+
+same-flag : (x y : Bool) → (x ≡ true → y ≡ true) → (y ≡ true → x ≡ true) → x ≡ y
+same-flag true y f g = sym (f refl)
+same-flag false true f g = g refl
+same-flag false false f g = refl
+
+pub either-flag : (a b k : ℕ) → flag (either a b) k ≡ (flag a k || flag b k)
+either-flag a b k = same-flag (flag (either a b) k) (flag a k || flag b k) (λ e. ⊎-elim (λ p. or-l (flag a k) (flag b k) p) (λ p. or-r (flag a k) (flag b k) p) (either-cases a b k e)) (λ e. by (flag a k) refl e)
+  where
+    or-l : (x y : Bool) → x ≡ true → (x || y) ≡ true
+    or-l x y p = ap (λ (z : Bool). z || y) p
+
+    or-r : (x y : Bool) → y ≡ true → (x || y) ≡ true
+    or-r true y p = refl
+    or-r false y p = p
+
+    by : (x : Bool) → flag a k ≡ x → (x || flag b k) ≡ true → flag (either a b) k ≡ true
+    by true p e = either-l a b k p
+    by false p e = either-r a b k e
+
+pub both-in : (a b k : ℕ) → flag a k ≡ true → flag b k ≡ true → flag (both a b) k ≡ true
+unfolding both
+both-in a b k p q = set-flag (bitAnd a b) k (digit-and a b k ∙ omega (arith, flag-set a k p, flag-set b k q))
+
+pub both-flag : (a b k : ℕ) → flag (both a b) k ≡ (flag a k && flag b k)
+both-flag a b k = same-flag (flag (both a b) k) (flag a k && flag b k) (λ e. let h = both-true a b k e in ap₂ _&&_ (h .0) (h .1)) (λ e. by (flag a k) refl e)
+  where
+    by : (x : Bool) → flag a k ≡ x → (x && flag b k) ≡ true → flag (both a b) k ≡ true
+    by true p e = both-in a b k p e
+    by false p e = absurd (true≢false (sym e))

@@ -1,12 +1,12 @@
--- "Most: 64 nodes, 192 edges, 32 rules, 32 orders." In code these are the constants of `Graph`, and each contract holds the two together.
+-- "Most: 512 nodes, 1,024 edges, 32 rules, 32 orders." In code these are the constants of `Graph`, and each contract holds the two together.
 -- Assumes nothing.
 use Prim.Native.Nat.{ℕ}
 
 abbrev pub most-nodes : ℕ
-most-nodes = 64
+most-nodes = 512
 
 abbrev pub most-edges : ℕ
-most-edges = 192
+most-edges = 1024
 
 abbrev pub most-rules : ℕ
 most-rules = 32

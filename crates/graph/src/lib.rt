@@ -54,9 +54,9 @@ pub struct Graph {
 }
 
 impl Graph {
-    pub const NODES: usize = 64;
+    pub const NODES: usize = 512;
 
-    pub const EDGES: usize = 192;
+    pub const EDGES: usize = 1024;
 
     pub const RULES: usize = 32;
 

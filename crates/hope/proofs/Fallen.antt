@@ -24,20 +24,20 @@ lowered-none l m = record {
   same = λ y h. refl;
 }
 
+-- its set was there already
+pub lowered-same : {high : List ℕ} (low : List ℕ) (done m fell y old : ℕ) → old ≡ getD low y 0 → ((k : ℕ) → flag old k ≡ true → flag m k ≡ true) → Lowered high low done m fell → Lowered high low (put done y) m fell
+lowered-same low done m fell y old e inside was = record {
+  to = λ z k h s. ⊎-elim (λ (d : z ≡ y). inside k (ap (λ (w : ℕ). flag w k) e ∙ ap (λ (x : ℕ). listed low x k) (sym d) ∙ s)) (λ p. was .to z k p s) (put-cases done y z h);
+  down = was .down;
+  same = was .same;
+}
+
 module _ {high : List ℕ} (low : List ℕ) (done m fell y old new : ℕ) (e₁ : old ≡ getD low y 0) (e₂ : new ≡ both old m) (was : Lowered high low done m fell) where
   in-old : (k : ℕ) → flag new k ≡ true → listed low y k ≡ true
   in-old k h = ap (λ (w : ℕ). flag w k) (sym e₁) ∙ both-true old m k (ap (λ (w : ℕ). flag w k) (sym e₂) ∙ h) .0
 
   in-m : (k : ℕ) → flag new k ≡ true → flag m k ≡ true
   in-m k h = both-true old m k (ap (λ (w : ℕ). flag w k) (sym e₂) ∙ h) .1
-
-  -- its word was there already
-  pub lowered-same : new ≡ old → Lowered high low (put done y) m fell
-  lowered-same e = record {
-    to = λ z k h s. ⊎-elim (λ (d : z ≡ y). in-m k (ap (λ (w : ℕ). flag w k) (e ∙ e₁) ∙ ap (λ (x : ℕ). listed low x k) (sym d) ∙ s)) (λ p. was .to z k p s) (put-cases done y z h);
-    down = was .down;
-    same = was .same;
-  }
 
   pub lowered-set : Lowered high (set low y new) (put done y) m (put fell y)
   lowered-set = record {

@@ -19,23 +19,26 @@ use Rattle.words.specs.Words.{listed}
 use Rattle.hope.proofs.Hope.{Below, no-next}
 use Rattle.hope.proofs.Rest.{unset, mark-keeps}
 
-module _ (succ fits : List ℕ) (into visited after v : ℕ) where
-  pub record Kept (least : List ℕ) (left : ℕ) : Type 0 where
-    pub start : Below succ into visited least v after
+module _ (succ fits : List ℕ) (into visited : ℕ) where
+  -- since the words were `first` they have only fallen
+  pub record Kept (first least : List ℕ) (left : ℕ) : Type 0 where
+    pub down : (y k : ℕ) → listed least y k ≡ true → listed first y k ≡ true
     pub closed : (x : ℕ) → flag left x ≡ false → Below succ into visited least x (mark fits (getD least x 0) x)
 
   -- the steps from x, once `lower` has gone over them
-  spread : {high low : List ℕ} {fell : ℕ} (x m word next : ℕ) → word ≡ getD succ x 0 → next ≡ less word (either visited (both m into)) → Lowered high low next m fell → Below succ into visited low x m
+  pub spread : {high low : List ℕ} {fell : ℕ} (x m word next : ℕ) → word ≡ getD succ x 0 → next ≡ less word (either visited (both m into)) → Lowered high low next m fell → Below succ into visited low x m
   spread x m word next e₁ e₂ lowered y s f n k = lowered .to y k (ap (λ (w : ℕ). flag w y) e₂ ∙ less-in word (either visited (both m into)) y (ap (λ (w : ℕ). flag w y) e₁ ∙ s)
       (unset (λ h. ⊎-elim (λ p. true≢false (sym p ∙ f)) (λ p. let q = both-true m into y p in n (q .0) (q .1)) (either-cases visited (both m into) y h))))
 
-  pub kept-start : (top : ℕ) (least : List ℕ) (word next fell : ℕ) → length succ ≡ most-nodes
-      → word ≡ getD succ v 0
-      → next ≡ less word (either visited (both after into))
-      → Lowered (replicate most-nodes top) least next after fell
-      → Kept least fell
-  kept-start top least word next fell long e₁ e₂ lowered = record { start = spread v after word next e₁ e₂ lowered; closed = λ x h. go x h (decLt x most-nodes) }
+  pub kept-start : (top : ℕ) (high least : List ℕ) (next after fell : ℕ) → length succ ≡ most-nodes
+      → high ≡ replicate most-nodes top
+      → Lowered high least next after fell
+      → Kept least least fell
+  kept-start top high least next after fell long e lowered₀ = record { down = λ y k h. h; closed = λ x h. go x h (decLt x most-nodes) }
     where
+      lowered : Lowered (replicate most-nodes top) least next after fell
+      lowered = subst (λ (l : List ℕ). Lowered l least next after fell) e lowered₀
+
       below-top : (n y k : ℕ) → listed (replicate n top) y k ≡ true → flag top k ≡ true
       below-top zero y k h = absurd (true≢false (sym h ∙ flag-zero k))
       below-top (suc n) zero k h = h
@@ -50,7 +53,7 @@ module _ (succ fits : List ℕ) (into visited after v : ℕ) where
       go x h (yes l) y s f n k p = mark-keeps fits (getD least x 0) x k (ap (λ (w : ℕ). flag w k) (lowered .same x h ∙ top-at most-nodes x l) ∙ below-top most-nodes y k (lowered .down y k p))
       go x h (no l) y s f n k p = absurd (true≢false (sym s ∙ ap (λ (w : ℕ). flag w y) (List·getD-eq-default succ 0 {n = x} (omega (arith, l, long))) ∙ flag-zero y))
 
-  pub kept-on : (high low : List ℕ) (left x m word next fell one rest last : ℕ)
+  pub kept-on : (first high low : List ℕ) (left x m word next fell one rest last : ℕ)
       → m ≡ mark fits (getD high x 0) x
       → word ≡ getD succ x 0
       → next ≡ less word (either visited (both m into))
@@ -58,10 +61,10 @@ module _ (succ fits : List ℕ) (into visited after v : ℕ) where
       → one ≡ put 0 x
       → rest ≡ less left one
       → last ≡ either rest fell
-      → Kept high left
-      → Kept low last
-  kept-on high low left x m word next fell one rest last e₁ e₂ e₃ lowered e₄ e₅ e₆ kept = record {
-    start = λ y s f n k p. kept .start y s f n k (lowered .down y k p);
+      → Kept first high left
+      → Kept first low last
+  kept-on first high low left x m word next fell one rest last e₁ e₂ e₃ lowered e₄ e₅ e₆ kept = record {
+    down = λ y k p. kept .down y k (lowered .down y k p);
     closed = λ z h. go z (out z h .0) (out z h .1) (ℕ-discrete z x);
   }
     where
@@ -81,6 +84,7 @@ module _ (succ fits : List ℕ) (into visited after v : ℕ) where
           unset (λ p. true≢false (sym (ap (λ (w : ℕ). flag w z) (e₅ ∙ ap (less left) e₄) ∙ less-in left (put 0 x) z p (put-other 0 x z n ∙ flag-zero z)) ∙ b)) in
           subst (λ (w : ℕ). Below succ into visited low z (mark fits w z)) (sym (lowered .same z a)) (λ y s f m k p. kept .closed z was y s f m k (lowered .down y k p))
 
-  pub kept-all : (goal : ℕ) → Into fits goal into → (least : List ℕ) (left : ℕ) → Kept least left → left ≡ 0 → listed least goal goal ≡ true → (l : List ℕ) → Next succ fits goal visited after v l → ⊥
-  kept-all goal known least left kept z lost =
-      no-next succ fits goal into visited after known least (λ x. kept .closed x (ap (λ (w : ℕ). flag w x) z ∙ flag-zero x)) lost v (kept .start)
+  pub kept-all : (after v goal : ℕ) → Into fits goal into → (first least : List ℕ) (left : ℕ) → Below succ into visited first v after → Kept first least left → ((j : ℕ) → flag left j ≡ false) → listed least goal goal ≡ true
+      → (l : List ℕ) → Next succ fits goal visited after v l → ⊥
+  kept-all after v goal known first least left start kept none lost =
+      no-next succ fits goal into visited after known least (λ x. kept .closed x (none x)) lost v (λ y s f n k p. start y s f n k (kept .down y k p))

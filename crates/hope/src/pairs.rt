@@ -2,34 +2,34 @@
 // after the first. Routes may be taken for walks here: one that comes back to a node has no less ordered than one that doesn't.
 use crate::hopeful;
 use crate::marked;
-use flags::has;
-use flags::lowest;
-use flags::with;
-use flags::without;
-use flags::word;
 use graph::Graph;
+use sets::Set;
+use sets::has;
+use sets::lowest;
+use sets::with;
+use words::Sets;
 ghost use mathlib.Core.Path.{_≡_};
 ghost use mathlib.Core.Bool.{true, false};
 ghost use mathlib.Core.List.{List};
 ghost use Prim.Native.Nat.{ℕ, _<_, _≤_};
 ghost use lib.ListN.{length};
 ghost use Rattle.graph.specs.Limits.{most-nodes};
+ghost use Rattle.sets.specs.Whole.{whole, rows};
 ghost use Rattle.hope.specs.Rest.{Next};
 ghost use Rattle.hope.specs.Hope.{most-pairs, Into, Known};
 
 // How many pairs `some_way` keeps before it gives up and answers true.
-const PAIRS: usize = 8 * Graph::NODES;
+const PAIRS: usize = Graph::NODES;
 
-// Whether one of the first n pairs has this node, and a word within w: what goes on from (y, w) then goes on from that pair too.
-fn known<'a>(nodes: &'a [usize; PAIRS], words: &'a [u64; PAIRS], n: usize, y: usize, w: u64) -> bool
+// Whether one of the first n pairs has this node, and a set within w: what goes on from (y, w) then goes on from that pair too.
+fn known<'a>(nodes: &'a [usize; PAIRS], kept: &'a [Set; PAIRS], n: usize, y: usize, w: Set) -> bool
     requires { ⌜ n ≤ most-pairs ⌝ }
-    ensures { λ r. ⌜ (r ≡ true → Known (now (nodes .entry)) (now (words .entry)) n y w) ⌝ }
+    ensures { λ r. ⌜ (r ≡ true → Known (now (nodes .entry)) (rows (now (kept .entry))) n y (whole w)) ⌝ }
 {
     let mut j = 0;
     while j < n {
         if nodes[j] == y {
-            let more = without(word(words[j]), w);
-            if more == 0 {
+            if lowest(kept[j], w) == Graph::NODES {
                 return true;
             }
         }
@@ -40,47 +40,47 @@ fn known<'a>(nodes: &'a [usize; PAIRS], words: &'a [u64; PAIRS], n: usize, y: us
 
 // Whether some way on from v to the goal leaves the ends unordered; where this is false none does.
 fn some_way<'a>(
-    succ: &'a [u64; Graph::NODES],
-    fits: &'a [u64; Graph::NODES],
+    succ: &'a Sets,
+    fits: &'a Sets,
     goal: usize,
-    visited: u64,
-    after: u64,
+    visited: Set,
+    after: Set,
     v: usize,
 ) -> bool
     requires { ⌜ (v < most-nodes) × (goal < most-nodes) × (length (now succ) ≡ most-nodes) ⌝ }
-    ensures { λ r. ⌜ (r ≡ false → (l : List ℕ) → Next (now (succ .entry)) (now (fits .entry)) goal visited after v l → ⊥) ⌝ }
+    ensures { λ r. ⌜ (r ≡ false → (l : List ℕ) → Next (rows (now (succ .entry))) (rows (now (fits .entry))) goal (whole visited) (whole after) v l → ⊥) ⌝ }
 {
     let mut nodes = [0usize; PAIRS];
-    let mut words = [0u64; PAIRS];
+    let mut kept = [[0u64; sets::WORDS]; PAIRS];
     nodes[0] = v;
-    words[0] = after;
+    kept[0] = after;
     let mut n = 1;
     let mut i = 0;
     while i < n {
-        let next = word(succ[nodes[i]]);
-        let before = word(words[i]);
+        let next = succ[nodes[i]];
+        let ordered = kept[i];
         let mut tried = visited;
         loop {
-            let left = without(next, tried);
-            if left == 0 {
+            let y = lowest(next, tried);
+            if y == Graph::NODES {
                 break;
             }
-            let y = lowest(left);
-            let w = marked(fits, before, y);
+            let w = marked(fits, ordered, y);
             if !has(w, goal) {
                 if y == goal {
                     return true;
                 }
-                if !known(&nodes, &words, n, y, w) {
+                if !known(&nodes, &kept, n, y, w) {
                     if n == PAIRS {
                         return true;
                     }
                     nodes[n] = y;
-                    words[n] = w;
+                    kept[n] = w;
                     n += 1;
                 }
             }
-            tried = with(tried, y);
+            let more = with(tried, y);
+            tried = more;
         }
         i += 1;
     }
@@ -89,18 +89,18 @@ fn some_way<'a>(
 
 // Whether no way on from v is left, asked once the way over k has failed. Only if `hopeful` didn't see that failure is it worth a longer look.
 pub fn lost<'a>(
-    succ: &'a [u64; Graph::NODES],
-    fits: &'a [u64; Graph::NODES],
+    succ: &'a Sets,
+    fits: &'a Sets,
     goal: usize,
-    into: u64,
-    visited: u64,
-    after: u64,
+    into: Set,
+    visited: Set,
+    after: Set,
     v: usize,
     k: usize,
 ) -> bool
     requires { ⌜ (v < most-nodes) × (k < most-nodes) × (goal < most-nodes) ⌝ }
-    requires { ⌜ (length (now succ) ≡ most-nodes) × Into (now fits) goal into ⌝ }
-    ensures { λ r. ⌜ (r ≡ true → (l : List ℕ) → Next (now (succ .entry)) (now (fits .entry)) goal visited after v l → ⊥) ⌝ }
+    requires { ⌜ (length (now succ) ≡ most-nodes) × Into (rows (now fits)) goal (whole into) ⌝ }
+    ensures { λ r. ⌜ (r ≡ true → (l : List ℕ) → Next (rows (now (succ .entry))) (rows (now (fits .entry))) goal (whole visited) (whole after) v l → ⊥) ⌝ }
 {
     if !hopeful(
         succ,

@@ -22,22 +22,22 @@ diff-ge : (a b : ℕ) → b ≤ a → pos a -ℤ pos b ≡ pos (a - b)
 diff-ge a zero h = ap pos (omega arith)
 diff-ge a (suc b) h = simp (le-ltb a (suc b) h)
 
-diff-fits : (a b : ℕ) → a < 2 ^ 24 → b < 2 ^ 24 → SFits w64 (pos a -ℤ pos b)
+diff-fits : (a b : ℕ) → a < 2 ^ 26 → b < 2 ^ 26 → SFits w64 (pos a -ℤ pos b)
 diff-fits a b ha hb =
     ⊎-elim (λ h. rw (diff-lt a b h) (record { sfits = omega arith })) (λ h. rw (diff-ge a b h) (record { sfits = omega arith }))
     (lt-or-ge a b)
 
 -- as the code has it: the two numbers cast, and the difference read back
-toZ-small : (a : ℕ) → a < 2 ^ 24 → toZ w64 a ≡ pos a
+toZ-small : (a : ℕ) → a < 2 ^ 26 → toZ w64 a ≡ pos a
 toZ-small a h = toZ-pos w64 a (omega arith)
 
-cast-diff : (a b : ℕ) → a < 2 ^ 24 → b < 2 ^ 24 → toZ w64 a -ℤ toZ w64 b ≡ pos a -ℤ pos b
+cast-diff : (a b : ℕ) → a < 2 ^ 26 → b < 2 ^ 26 → toZ w64 a -ℤ toZ w64 b ≡ pos a -ℤ pos b
 cast-diff a b ha hb = ap (λ (z : ℤ). z -ℤ toZ w64 b) (toZ-small a ha) ∙ ap (λ (z : ℤ). pos a -ℤ z) (toZ-small b hb)
 
-pub cast-diff-fits : (a b : ℕ) → a < 2 ^ 24 → b < 2 ^ 24 → SFits w64 (toZ w64 a -ℤ toZ w64 b)
+pub cast-diff-fits : (a b : ℕ) → a < 2 ^ 26 → b < 2 ^ 26 → SFits w64 (toZ w64 a -ℤ toZ w64 b)
 cast-diff-fits a b ha hb = rw (cast-diff a b ha hb) (diff-fits a b ha hb)
 
-pub cast-diff-back : (a b : ℕ) → a < 2 ^ 24 → b < 2 ^ 24 → toZ w64 (ofZ w64 (toZ w64 a -ℤ toZ w64 b)) ≡ pos a -ℤ pos b
+pub cast-diff-back : (a b : ℕ) → a < 2 ^ 26 → b < 2 ^ 26 → toZ w64 (ofZ w64 (toZ w64 a -ℤ toZ w64 b)) ≡ pos a -ℤ pos b
 cast-diff-back a b ha hb = toZ-ofZ w64 _ (cast-diff-fits a b ha hb) ∙ cast-diff a b ha hb
 
 pos-lt : (a b : ℕ) → ltZ (pos 0) (pos a -ℤ pos b) ≡ ltb b a
@@ -49,7 +49,7 @@ pos-lt a b = go (tri a b)
     go (inr (inr h)) = ap (λ (z : ℤ). ltZ (pos 0) z) (diff-ge a b (omega arith)) ∙ lt-ltb 0 (a - b) (omega arith) ∙ sym (lt-ltb b a h)
 
 -- what the test `0 < d` says of a signed d that is the difference of two small numbers
-module _ (a b : ℕ) (ha : a < 2 ^ 24) (hb : b < 2 ^ 24) (z : ℤ) (e : z ≡ pos a -ℤ pos b) where
+module _ (a b : ℕ) (ha : a < 2 ^ 26) (hb : b < 2 ^ 26) (z : ℤ) (e : z ≡ pos a -ℤ pos b) where
   bits : toZ w64 (ofZ w64 z) ≡ pos a -ℤ pos b
   bits = ap (λ (y : ℤ). toZ w64 (ofZ w64 y)) e ∙ toZ-ofZ w64 (pos a -ℤ pos b) (diff-fits a b ha hb)
 

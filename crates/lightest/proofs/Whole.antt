@@ -52,6 +52,6 @@ module _ (from to links ws firsts seconds : List ℕ) (kn : Known from to links 
       known e h = ⊎-elim (λ l. (l, kn .some e l)) (λ l. absurd (true-false h (fill-out (length ws) most-edges e l))) (lt-or-ge e (length ws))
 
   -- so the search from nothing finds one
-  pub found : (s : Cut) (a : ℕ) (r : Pick) → ((e : ℕ) → getD ws e 0 < 65536) → s .chosen ≡ replicate most-edges false → 12582720 ≤ a → Picked ws (Apart from to firsts seconds) s a r → r .found ≡ true
+  pub found : (s : Cut) (a : ℕ) (r : Pick) → ((e : ℕ) → getD ws e 0 < 65536) → s .chosen ≡ replicate most-edges false → 67107840 ≤ a → Picked ws (Apart from to firsts seconds) s a r → r .found ≡ true
   found s a r f z h pk = ⊎-elim (λ q. q) (λ q. absurd (omega (arith, h, kn .weights, kn .net .few, total-most (λ i. getD ws i 0) 0 (fill (length ws) most-edges) f, edges .long, pk .none q (fill (length ws) most-edges) (record { edges = edges; good = apart; has = λ i x. absurd (false≢true (sym (ap (λ (v : List Bool). getD v i false) z ∙ none-has most-edges i) ∙ x)) }))))
       (bool (r .found))

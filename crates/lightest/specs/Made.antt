@@ -11,7 +11,7 @@ use Rattle.lightest.specs.Sets.{weigh, Edges}
 
 -- "exact because weights are below 2^24"
 abbrev pub most-weight : ℕ
-most-weight = 16777216
+most-weight = 67108864
 
 -- a cut with its weight
 pub record Made (ws : List ℕ) (c : Cut) : Type 0 where

@@ -104,12 +104,12 @@ fn earlier(first: Route, r: Route) -> Route
 
 // Packs routes of the pairs that s misses, each with the most that its edges have left, until they sum to more than the allowance or no route is left.
 pub fn bound(
-    from: &[u8],
-    to: &[u8],
-    links: &[u8; Graph::NODES + Graph::EDGES],
+    from: &[u16],
+    to: &[u16],
+    links: &[u16; Graph::NODES + Graph::EDGES],
     ws: &[u16],
-    firsts: &[u8],
-    seconds: &[u8],
+    firsts: &[u16],
+    seconds: &[u16],
     s: Cut,
     allowance: u32,
 ) -> Packing

@@ -16,12 +16,12 @@ const MOST: u32 = Graph::EDGES as u32 * 65535;
 
 // The lightest cut that has the edges of s and weighs at most the allowance more, or none.
 fn least(
-    from: &[u8],
-    to: &[u8],
-    links: &[u8; Graph::NODES + Graph::EDGES],
+    from: &[u16],
+    to: &[u16],
+    links: &[u16; Graph::NODES + Graph::EDGES],
     ws: &[u16],
-    firsts: &[u8],
-    seconds: &[u8],
+    firsts: &[u16],
+    seconds: &[u16],
     s: Cut,
     allowance: u32,
 ) -> Pick
@@ -72,12 +72,12 @@ fn least(
 
 // The chosen cut: first a lightest one, then its list, edge by edge: an earlier edge is taken where some cut as light goes on from it.
 pub fn best(
-    from: &[u8],
-    to: &[u8],
-    links: &[u8; Graph::NODES + Graph::EDGES],
+    from: &[u16],
+    to: &[u16],
+    links: &[u16; Graph::NODES + Graph::EDGES],
     ws: &[u16],
-    firsts: &[u8],
-    seconds: &[u8],
+    firsts: &[u16],
+    seconds: &[u16],
 ) -> Cut
     requires { ⌜ Known (now from) (now to) (now links) (now ws) (now firsts) (now seconds) ⌝ }
     ensures { λ r. ⌜ Made (now (ws .entry)) r × Least (now (ws .entry)) (Apart (now (from .entry)) (now (to .entry)) (now (firsts .entry)) (now (seconds .entry))) (r .chosen) ⌝ }

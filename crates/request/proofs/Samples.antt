@@ -51,10 +51,10 @@ samples-unreadable = (
   read-as (bytes D ++ (0 ∷ [])) (Refused Unreadable 84) tt refl,
 )
 
--- "65 nodes: 2", at the first beyond 64
+-- "513 nodes: 2", at the first beyond 512
 abbrev many : List ℕ
-many = bytes (request (record { nodes = replicate 65 Fence; edges = [] }) fence-rules [])
+many = bytes (request (record { nodes = replicate 513 Fence; edges = [] }) fence-rules [])
 
-pub samples-many : Answered many (Refused TooMany 64)
+pub samples-many : Answered many (Refused TooMany 512)
 unfolding bytes flatMap readingOf endCheck recordAt run nodesIn edgesIn rulesIn ordersIn limitsOf listed nodesFrom edgesFrom rulesFrom ordersFrom fencesFrom badNode badEdge samePair repeated badLeft badRight badRule badOrder leads earliestFrom any
-samples-many = read-as many (Refused TooMany 64) tt refl
+samples-many = read-as many (Refused TooMany 512) tt refl

@@ -49,7 +49,7 @@ Formed r = FormedLeft (r .left) × FormedRight (r .left) (r .right)
 
 -- a request that no refusal from 2 to 7 applies to
 pub record Proper (r : Request) : Type 0 where
-  -- "Most: 64 nodes, 192 edges, 32 rules, 32 orders."
+  -- "Most: 512 nodes, 1,024 edges, 32 rules, 32 orders."
   pub few-nodes : length (r .graph .nodes) ≤ most-nodes
   pub few-edges : length (r .graph .edges) ≤ most-edges
   pub few-rules : length (r .rules) ≤ most-rules

@@ -14,17 +14,17 @@ use Rattle.route.specs.Way.{Net, Linked, Remains}
 use Rattle.route.proofs.Ways.{Shut, at-same, set-val, unseen-set}
 
 -- at the start no node but the goal is reached
-pub start-far : (dist : List ℕ) (goal a : ℕ) → dist ≡ set (replicate most-nodes 255) goal 0 → a < most-nodes → a ≢ goal → 255 ≤ getD dist a 0
-start-far dist goal a p h n = omega (arith, ap (λ (k : List ℕ). getD k a 0) p, getD-set-other {A = ℕ} (replicate most-nodes 255) goal a 0 0 n, getD-replicate {A = ℕ} most-nodes a 255 0 h)
+pub start-far : (dist : List ℕ) (goal a : ℕ) → dist ≡ set (replicate most-nodes 65535) goal 0 → a < most-nodes → a ≢ goal → 65535 ≤ getD dist a 0
+start-far dist goal a p h n = omega (arith, ap (λ (k : List ℕ). getD k a 0) p, getD-set-other {A = ℕ} (replicate most-nodes 65535) goal a 0 0 n, getD-replicate {A = ℕ} most-nodes a 65535 0 h)
 
 module _ (from to left : List ℕ) (goal : ℕ) where
-  pub spread-start : (dist via queue : List ℕ) (count : ℕ) → goal < most-nodes → dist ≡ set (replicate most-nodes 255) goal 0 → queue ≡ set (replicate most-nodes 0) 0 goal → length via ≡ most-nodes → count ≡ 1
+  pub spread-start : (dist via queue : List ℕ) (count : ℕ) → goal < most-nodes → dist ≡ set (replicate most-nodes 65535) goal 0 → queue ≡ set (replicate most-nodes 0) 0 goal → length via ≡ most-nodes → count ≡ 1
       → Spread from to left goal dist via queue count 0 0
   spread-start dist via queue count g p q l c = record {
-    long = ap length p ∙ length-set (replicate most-nodes 255) goal 0;
+    long = ap length p ∙ length-set (replicate most-nodes 65535) goal 0;
     wide = l;
     room = ap length q ∙ length-set (replicate most-nodes 0) 0 goal;
-    all = omega (arith, c, ap unseen p, unseen-set (replicate most-nodes 255) goal 0 g (getD-replicate {A = ℕ} most-nodes goal 255 0 g) (omega arith));
+    all = omega (arith, c, ap unseen p, unseen-set (replicate most-nodes 65535) goal 0 g (getD-replicate {A = ℕ} most-nodes goal 65535 0 g) (omega arith));
     aim = aim;
     home = λ v h z. ⊎-elim (λ a. a .0) (λ a. absurd (omega (arith, z, a .1))) (at v h);
     most = λ v h. ⊎-elim (λ a. inr (omega (arith, a .1, c))) (λ a. inl (a .1)) (at v h);
@@ -39,15 +39,15 @@ module _ (from to left : List ℕ) (goal : ℕ) where
       first = ap (λ (k : List ℕ). getD k 0 0) q ∙ getD-set-same (replicate most-nodes 0) 0 goal 0 (omega arith)
 
       -- the goal alone is reached
-      at : (v : ℕ) → v < most-nodes → ((v ≡ goal) × (getD dist v 0 ≡ 0)) ⊎ ((v ≢ goal) × (getD dist v 0 ≡ 255))
-      at v h = ⊎-elim (λ a. inl (a .0, ap (λ (k : List ℕ). getD k v 0) p ∙ a .1)) (λ a. inr (a .0, ap (λ (k : List ℕ). getD k v 0) p ∙ a .1 ∙ getD-replicate {A = ℕ} most-nodes v 255 0 h)) (set-val (replicate most-nodes 255) goal 0 v g)
+      at : (v : ℕ) → v < most-nodes → ((v ≡ goal) × (getD dist v 0 ≡ 0)) ⊎ ((v ≢ goal) × (getD dist v 0 ≡ 65535))
+      at v h = ⊎-elim (λ a. inl (a .0, ap (λ (k : List ℕ). getD k v 0) p ∙ a .1)) (λ a. inr (a .0, ap (λ (k : List ℕ). getD k v 0) p ∙ a .1 ∙ getD-replicate {A = ℕ} most-nodes v 65535 0 h)) (set-val (replicate most-nodes 65535) goal 0 v g)
 
       aim : getD dist goal 0 ≡ 0
-      aim = ap (λ (k : List ℕ). getD k goal 0) p ∙ getD-set-same (replicate most-nodes 255) goal 0 0 g
+      aim = ap (λ (k : List ℕ). getD k goal 0) p ∙ getD-set-same (replicate most-nodes 65535) goal 0 0 g
 
   module _ (dist via queue : List ℕ) (count i e : ℕ) (y : Spread from to left goal dist via queue count i e) where
     -- the same nodes, more edges looked at
-    spread-on : (i′ e′ : ℕ) → ((j x : ℕ) → x < length from → Remains left x → getD to x 0 ≡ getD queue j 0 → (j < i′) ⊎ ((j ≡ i′) × (x < e′)) → getD dist (getD from x 0) 0 < 255) → Spread from to left goal dist via queue count i′ e′
+    spread-on : (i′ e′ : ℕ) → ((j x : ℕ) → x < length from → Remains left x → getD to x 0 ≡ getD queue j 0 → (j < i′) ⊎ ((j ≡ i′) × (x < e′)) → getD dist (getD from x 0) 0 < 65535) → Spread from to left goal dist via queue count i′ e′
     spread-on i′ e′ f = record { long = y .long; wide = y .wide; room = y .room; all = y .all; aim = y .aim; home = y .home; most = y .most; back = y .back; known = y .known; queued = y .queued; done = f }
 
     -- edges that end elsewhere
@@ -59,11 +59,11 @@ module _ (from to left : List ℕ) (goal : ℕ) where
         below j x z p l (no s) = absurd (f x (omega (arith, s)) l (z ∙ at-same queue p))
 
     -- an edge that adds no node
-    pub spread-pass : (Remains left e → getD dist (getD from e 0) 0 < 255) → Spread from to left goal dist via queue count i (e + 1)
+    pub spread-pass : (Remains left e → getD dist (getD from e 0) 0 < 65535) → Spread from to left goal dist via queue count i (e + 1)
     spread-pass f = spread-on i (e + 1) (λ j x h o z w. ⊎-elim (λ a. y .done j x h o z (inl a)) (λ a. here j x h o z (a .0) (a .1) (ℕ-discrete x e)) w)
       where
-        here : (j x : ℕ) → x < length from → Remains left x → getD to x 0 ≡ getD queue j 0 → j ≡ i → x < e + 1 → Dec (x ≡ e) → getD dist (getD from x 0) 0 < 255
-        here j x h o z q l (yes p) = subst⁻¹ (λ (k : ℕ). getD dist (getD from k 0) 0 < 255) p (f (subst (Remains left) p o))
+        here : (j x : ℕ) → x < length from → Remains left x → getD to x 0 ≡ getD queue j 0 → j ≡ i → x < e + 1 → Dec (x ≡ e) → getD dist (getD from x 0) 0 < 65535
+        here j x h o z q l (yes p) = subst⁻¹ (λ (k : ℕ). getD dist (getD from k 0) 0 < 65535) p (f (subst (Remains left) p o))
         here j x h o z q l (no p) = y .done j x h o z (inr (q, omega (arith, p)))
 
     -- the last edge of a node
@@ -80,14 +80,14 @@ module _ (from to left : List ℕ) (goal : ℕ) where
         let q = y .queued (getD to x 0) (net .head x h) s in
         y .done (q .0) x h o (sym (q .2)) (inl (omega (arith, q .1)))
 
-    pub spread-near : (v : ℕ) → v < most-nodes → getD dist v 0 < 255 → getD dist v 0 < count
+    pub spread-near : (v : ℕ) → v < most-nodes → getD dist v 0 < 65535 → getD dist v 0 < count
     spread-near v h l = ⊎-elim (λ a. absurd (omega (arith, a))) (λ a. a) (y .most v h)
 
-    pub spread-seen : (v : ℕ) → v < most-nodes → getD dist v 0 ≢ 255 → getD dist v 0 < 255
+    pub spread-seen : (v : ℕ) → v < most-nodes → getD dist v 0 ≢ 65535 → getD dist v 0 < 65535
     spread-seen v h f = ⊎-elim (λ z. absurd (f z)) (λ z. omega (arith, z, y .all)) (y .most v h)
 
     -- an edge that adds the node v, one further than the node d away where the edge ends
-    module _ (v d : ℕ) (net : Net from to) (h : e < length from) (o : Remains left e) (q : getD dist (getD to e 0) 0 ≡ d) (at : v ≡ getD from e 0) (f : getD dist v 0 ≡ 255) (near : d < count) (now : i < count) where
+    module _ (v d : ℕ) (net : Net from to) (h : e < length from) (o : Remains left e) (q : getD dist (getD to e 0) 0 ≡ d) (at : v ≡ getD from e 0) (f : getD dist v 0 ≡ 65535) (near : d < count) (now : i < count) where
       v64 : v < most-nodes
       v64 = omega (arith, at, net .tail e h)
 
@@ -104,7 +104,7 @@ module _ (from to left : List ℕ) (goal : ℕ) where
       new w = set-val dist v (d + 1) w vl
 
       -- a node that was reached keeps its distance
-      pub spread-keep : (w : ℕ) → getD dist w 0 < 255 → getD (set dist v (d + 1)) w 0 ≡ getD dist w 0
+      pub spread-keep : (w : ℕ) → getD dist w 0 < 65535 → getD (set dist v (d + 1)) w 0 ≡ getD dist w 0
       spread-keep w l = ⊎-elim (λ a. absurd (omega (arith, l, at-same dist (a .0), f))) (λ a. a .1) (new w)
 
       -- and its place in the queue
@@ -129,7 +129,7 @@ module _ (from to left : List ℕ) (goal : ℕ) where
         done = done;
       }
         where
-          back : (w k : ℕ) → w < most-nodes → getD (set dist v (d + 1)) w 0 ≡ suc k → k < 254 → Back from to left (set dist v (d + 1)) w k (getD (set via v e) w 0)
+          back : (w k : ℕ) → w < most-nodes → getD (set dist v (d + 1)) w 0 ≡ suc k → k < 65534 → Back from to left (set dist v (d + 1)) w k (getD (set via v e) w 0)
           back w k l z small = ⊎-elim here there (new w)
             where
               here : (w ≡ v) × (getD (set dist v (d + 1)) w 0 ≡ d + 1) → Back from to left (set dist v (d + 1)) w k (getD (set via v e) w 0)
@@ -143,10 +143,10 @@ module _ (from to left : List ℕ) (goal : ℕ) where
                   let b = y .back w k l (sym (a .1) ∙ z) small in
                   subst⁻¹ (Back from to left (set dist v (d + 1)) w k) (getD-set-other via v w e 0 (a .0)) (b .0, b .1, b .2, spread-keep (getD to (getD via w 0) 0) (omega (arith, b .3, small)) ∙ b .3)
 
-          known : (j : ℕ) → j < count + 1 → (getD (set queue count (getD from e 0)) j 0 < most-nodes) × (getD (set dist v (d + 1)) (getD (set queue count (getD from e 0)) j 0) 0 < 255)
+          known : (j : ℕ) → j < count + 1 → (getD (set queue count (getD from e 0)) j 0 < most-nodes) × (getD (set dist v (d + 1)) (getD (set queue count (getD from e 0)) j 0) 0 < 65535)
           known j l = go (ℕ-discrete j count)
             where
-              go : Dec (j ≡ count) → (getD (set queue count (getD from e 0)) j 0 < most-nodes) × (getD (set dist v (d + 1)) (getD (set queue count (getD from e 0)) j 0) 0 < 255)
+              go : Dec (j ≡ count) → (getD (set queue count (getD from e 0)) j 0 < most-nodes) × (getD (set dist v (d + 1)) (getD (set queue count (getD from e 0)) j 0) 0 < 65535)
               go (yes p) =
                   let z = at-same (set queue count (getD from e 0)) p ∙ place-new in
                   (omega (arith, z, v64), omega (arith, at-same (set dist v (d + 1)) z, getD-set-same dist v (d + 1) 0 vl, near, spread-room))
@@ -155,11 +155,11 @@ module _ (from to left : List ℕ) (goal : ℕ) where
                   let z = spread-place j l′ in
                   (omega (arith, z, y .known j l′ .0), omega (arith, at-same (set dist v (d + 1)) z, spread-keep (getD queue j 0) (y .known j l′ .1), y .known j l′ .1))
 
-          queued : (w : ℕ) → w < most-nodes → getD (set dist v (d + 1)) w 0 < 255 → (j : ℕ) × (j < count + 1) × (getD (set queue count (getD from e 0)) j 0 ≡ w)
+          queued : (w : ℕ) → w < most-nodes → getD (set dist v (d + 1)) w 0 < 65535 → (j : ℕ) × (j < count + 1) × (getD (set queue count (getD from e 0)) j 0 ≡ w)
           queued w l s = ⊎-elim (λ a. (count, omega arith, place-new ∙ sym (a .0)))
               (λ a. let b = y .queued w l (omega (arith, a .1, s)) in (b .0, omega (arith, b .1), spread-place (b .0) (b .1) ∙ b .2)) (new w)
 
-          done : (j x : ℕ) → x < length from → Remains left x → getD to x 0 ≡ getD (set queue count (getD from e 0)) j 0 → (j < i) ⊎ ((j ≡ i) × (x < e + 1)) → getD (set dist v (d + 1)) (getD from x 0) 0 < 255
+          done : (j x : ℕ) → x < length from → Remains left x → getD to x 0 ≡ getD (set queue count (getD from e 0)) j 0 → (j < i) ⊎ ((j ≡ i) × (x < e + 1)) → getD (set dist v (d + 1)) (getD from x 0) 0 < 65535
           done j x l ox z w = ⊎-elim (λ a. omega (arith, a .1, near, spread-room)) (λ a. omega (arith, a .1, y .done j x l ox (z ∙ spread-place j before) (old (a .0)))) (new (getD from x 0))
             where
               before : j < count
@@ -218,13 +218,13 @@ module _ (from to links left : List ℕ) (goal : ℕ) (net : Net from to) (linke
       pub look-less : (e′ : ℕ) → e < length from → e′ ≡ getD links (most-nodes + e) 0 → e < e′
       look-less e′ h q = omega (arith, q, linked .next e (omega arith) (omega (arith, h, net .both)) .low)
 
-      pub look-pass : (e′ : ℕ) → e < length from → e′ ≡ getD links (most-nodes + e) 0 → (Remains left e → getD dist (getD from e 0) 0 < 255) → Looking from to left goal i u d dist via queue count e′
+      pub look-pass : (e′ : ℕ) → e < length from → e′ ≡ getD links (most-nodes + e) 0 → (Remains left e → getD dist (getD from e 0) 0 < 65535) → Looking from to left goal i u d dist via queue count e′
       look-pass e′ h q f = onward dist via queue count e′ h q (spread-pass from to left goal dist via queue count i e (y .spread) f) (y .within) (y .here) (y .away)
 
-      pub look-seen : (v : ℕ) → e < length from → v ≡ getD from e 0 → getD dist v 0 ≢ 255 → getD dist (getD from e 0) 0 < 255
+      pub look-seen : (v : ℕ) → e < length from → v ≡ getD from e 0 → getD dist v 0 ≢ 65535 → getD dist (getD from e 0) 0 < 65535
       look-seen v h at f = omega (arith, at-same dist at, spread-seen from to left goal dist via queue count i e (y .spread) v (omega (arith, at, net .tail e h)) f)
 
-      module _ (v : ℕ) (h : e < length from) (o : Remains left e) (at : v ≡ getD from e 0) (f : getD dist v 0 ≡ 255) where
+      module _ (v : ℕ) (h : e < length from) (o : Remains left e) (at : v ≡ getD from e 0) (f : getD dist v 0 ≡ 65535) where
         ended : getD dist (getD to e 0) 0 ≡ d
         ended = at-same dist (y .ends h) ∙ y .away
 

@@ -40,7 +40,7 @@ module _ (from to left : List ℕ) (a : ℕ) where
       new = getD-set-same edges i e 0 (omega (arith, r .long))
 
 module _ (from to left : List ℕ) (goal : ℕ) (net : Net from to) (dist via queue : List ℕ) (count j : ℕ) (y : Spread from to left goal dist via queue count j 0) where
-  pub trace-short : (a : ℕ) → a < most-nodes → getD dist a 0 < 255 → getD dist a 0 < most-nodes
+  pub trace-short : (a : ℕ) → a < most-nodes → getD dist a 0 < 65535 → getD dist a 0 < most-nodes
   trace-short a h l = ⊎-elim (λ z. absurd (omega (arith, z))) (λ z. omega (arith, z, y .all)) (y .most a h)
 
   module _ (a n at i : ℕ) (edges : List ℕ) (l : i < n) (n64 : n < most-nodes) (at64 : at < most-nodes) (sum : getD dist at 0 + i ≡ n) (e : ℕ) (p : e ≡ getD via at 0) where
@@ -61,7 +61,7 @@ module _ (from to left : List ℕ) (goal : ℕ) (net : Net from to) (dist via qu
   }
 
 -- no way: what is reached doesn't grow, and a is not reached
-pub none-found : (from to left dist : List ℕ) (a goal : ℕ) (r : Route) → Shut from to left dist → getD dist goal 0 ≡ 0 → 255 ≤ getD dist a 0 → r .len ≡ 0 → Found from to left a goal r
+pub none-found : (from to left dist : List ℕ) (a goal : ℕ) (r : Route) → Shut from to left dist → getD dist goal 0 ≡ 0 → 65535 ≤ getD dist a 0 → r .len ≡ 0 → Found from to left a goal r
 none-found from to left dist a goal r s g h z = record {
   short = omega arith;
   none = λ q es w. omega (arith, h, way-back from to left dist s a es goal w (omega (arith, g)));

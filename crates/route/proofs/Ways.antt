@@ -17,7 +17,7 @@ use Rattle.route.specs.Way.{Net, Way, Remains}
 
 -- nothing leads on to the nodes that are reached
 abbrev pub Shut : List ℕ → List ℕ → List ℕ → List ℕ → Type 0
-Shut from to left dist = (e : ℕ) → e < length from → Remains left e → getD dist (getD to e 0) 0 < 255 → getD dist (getD from e 0) 0 < 255
+Shut from to left dist = (e : ℕ) → e < length from → Remains left e → getD dist (getD to e 0) 0 < 65535 → getD dist (getD from e 0) 0 < 65535
 
 -- an element after a store
 pub set-val : (l : List ℕ) (e x k : ℕ) → e < length l → ((k ≡ e) × (getD (set l e x) k 0 ≡ x)) ⊎ ((k ≢ e) × (getD (set l e x) k 0 ≡ getD l k 0))
@@ -30,10 +30,10 @@ set-val l e x k h = go (ℕ-discrete k e)
 pub at-same : (l : List ℕ) {x y : ℕ} → x ≡ y → getD l x 0 ≡ getD l y 0
 at-same l p = ap (λ (j : ℕ). getD l j 0) p
 
-miss-no : (y : ℕ) → y < 255 → miss y ≡ 0
-miss-no y h = let e : eqb y 255 ≡ false = ne-eqb y 255 (λ z. omega arith) in rw (e, miss) refl
+miss-no : (y : ℕ) → y < 65535 → miss y ≡ 0
+miss-no y h = let e : eqb y 65535 ≡ false = ne-eqb y 65535 (λ z. omega arith) in rw (e, miss) refl
 
-pub unseen-set : (l : List ℕ) (v y : ℕ) → v < length l → getD l v 0 ≡ 255 → y < 255 → unseen (set l v y) + 1 ≡ unseen l
+pub unseen-set : (l : List ℕ) (v y : ℕ) → v < length l → getD l v 0 ≡ 65535 → y < 65535 → unseen (set l v y) + 1 ≡ unseen l
 unseen-set [] v y h f q = absurd (omega arith)
 unseen-set (x ∷ l) zero y h f q = let m : miss x ≡ 1 = ap miss f in omega (arith, m, miss-no y q)
 unseen-set (x ∷ l) (suc v) y h f q = omega (arith, unseen-set l v y (omega arith) f q)
@@ -49,6 +49,6 @@ module _ (from to : List ℕ) where
   way-on Ok a (x ∷ es) b e w l f o = (w .0, w .1, w .2, way-on Ok (getD to x 0) es b e (w .3) l f o)
 
   -- where nothing leads on to what is reached, a way to it starts at what is reached
-  pub way-back : (left dist : List ℕ) → Shut from to left dist → (a : ℕ) (es : List ℕ) (b : ℕ) → Way from to (Remains left) a es b → getD dist b 0 < 255 → getD dist a 0 < 255
-  way-back left dist s a [] b w h = subst⁻¹ (λ (x : ℕ). getD dist x 0 < 255) w h
-  way-back left dist s a (e ∷ es) b w h = subst (λ (x : ℕ). getD dist x 0 < 255) (w .1) (s e (w .0) (w .2) (way-back left dist s (getD to e 0) es b (w .3) h))
+  pub way-back : (left dist : List ℕ) → Shut from to left dist → (a : ℕ) (es : List ℕ) (b : ℕ) → Way from to (Remains left) a es b → getD dist b 0 < 65535 → getD dist a 0 < 65535
+  way-back left dist s a [] b w h = subst⁻¹ (λ (x : ℕ). getD dist x 0 < 65535) w h
+  way-back left dist s a (e ∷ es) b w h = subst (λ (x : ℕ). getD dist x 0 < 65535) (w .1) (s e (w .0) (w .2) (way-back left dist s (getD to e 0) es b (w .3) h))

@@ -1,4 +1,4 @@
--- What the search for a route has found, node by node: dist is how far each node is from the goal, 255 where it is not reached.
+-- What the search for a route has found, node by node: dist is how far each node is from the goal, 65535 where it is not reached.
 -- Assumes nothing.
 use mathlib.Core.Bool.{true, false}
 use mathlib.Core.List.{List, [], _∷_}
@@ -13,7 +13,7 @@ use Rattle.route.specs.Way.{Remains}
 
 -- 1 for a node that is not reached
 abbrev pub miss : ℕ → ℕ
-miss x = elim (eqb x 255) [ true ↦ 1 | false ↦ 0 ]
+miss x = elim (eqb x 65535) [ true ↦ 1 | false ↦ 0 ]
 
 -- how many of these are not reached
 abbrev pub unseen : List ℕ → ℕ
@@ -32,11 +32,11 @@ pub record Spread (from to left : List ℕ) (goal : ℕ) (dist via queue : List 
   pub all : count + unseen dist ≡ most-nodes
   pub aim : getD dist goal 0 ≡ 0
   pub home : (v : ℕ) → v < most-nodes → getD dist v 0 ≡ 0 → v ≡ goal
-  pub most : (v : ℕ) → v < most-nodes → (getD dist v 0 ≡ 255) ⊎ (getD dist v 0 < count)
-  pub back : (v k : ℕ) → v < most-nodes → getD dist v 0 ≡ suc k → k < 254 → Back from to left dist v k (getD via v 0)
-  pub known : (j : ℕ) → j < count → (getD queue j 0 < most-nodes) × (getD dist (getD queue j 0) 0 < 255)
-  pub queued : (v : ℕ) → v < most-nodes → getD dist v 0 < 255 → (j : ℕ) × (j < count) × (getD queue j 0 ≡ v)
-  pub done : (j x : ℕ) → x < length from → Remains left x → getD to x 0 ≡ getD queue j 0 → (j < i) ⊎ ((j ≡ i) × (x < e)) → getD dist (getD from x 0) 0 < 255
+  pub most : (v : ℕ) → v < most-nodes → (getD dist v 0 ≡ 65535) ⊎ (getD dist v 0 < count)
+  pub back : (v k : ℕ) → v < most-nodes → getD dist v 0 ≡ suc k → k < 65534 → Back from to left dist v k (getD via v 0)
+  pub known : (j : ℕ) → j < count → (getD queue j 0 < most-nodes) × (getD dist (getD queue j 0) 0 < 65535)
+  pub queued : (v : ℕ) → v < most-nodes → getD dist v 0 < 65535 → (j : ℕ) × (j < count) × (getD queue j 0 ≡ v)
+  pub done : (j x : ℕ) → x < length from → Remains left x → getD to x 0 ≡ getD queue j 0 → (j < i) ⊎ ((j ≡ i) × (x < e)) → getD dist (getD from x 0) 0 < 65535
 
 -- the edges to the first i nodes of the queue have been looked at
 abbrev pub Reached : List ℕ → List ℕ → List ℕ → ℕ → Reach → ℕ → Type 0

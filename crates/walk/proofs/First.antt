@@ -15,7 +15,6 @@ use Rattle.graph.specs.Held.{Follows, Ordered, by-rule, by-way, Orders, Route, 
 use Rattle.graph.specs.Limits.{most-nodes}
 use Rattle.graph.proofs.Walked.{apart-cons, apart-uncons, apart-nil, each-split}
 use Rattle.walk.specs.declared.Way.{Way}
-use Rattle.words.specs.declared.Words.{Words}
 use Rattle.hope.specs.Rest.{Next}
 use Rattle.walk.specs.Search.{Answer, none, found, Earliest}
 use Rattle.words.specs.Words.{WordsOf}
@@ -36,7 +35,7 @@ module _ {F F′ : ℕ → ℕ → Type 0} (n : ℕ) (up : (p q : ℕ) → p < n
       let r = each-split (λ y. y < n) before (k ∷ after) (subst (Within n) e w) in
       by-way k before after e (ordered-up p (r .0) (r .1 .0) o₁) (ordered-up (r .1 .0) (r .1 .1) q o₂)
 
-module _ {g : Graph} {rules : List Rule} {c : List ℕ} (words : Words) (of : WordsOf g rules c words) (a b : ℕ) where
+module _ {g : Graph} {rules : List Rule} {c : List ℕ} (succ fits : List ℕ) (of : WordsOf g rules c succ fits) (a b : ℕ) where
   abbrev n : ℕ
   n = length (g .nodes)
 
@@ -51,29 +50,29 @@ module _ {g : Graph} {rules : List Rule} {c : List ℕ} (words : Words) (of : Wo
       let r = inside y between s in
       (subst (λ (z : ℕ). z < n) f (of .sound .ends i h .0), (r .0, r .1), r .2)
 
-  to-graph : (between : List ℕ) → Follows (Step g c) a between b → Ordered (Lists (words .fits)) a between b → Orders g rules a between b
+  to-graph : (between : List ℕ) → Follows (Step g c) a between b → Ordered (Lists fits) a between b → Orders g rules a between b
   to-graph between f o = let r = inside a between f in ordered-up n (λ p q h k. of .ruled p q h k .0) (r .0) (r .1) (r .2) o
 
-  to-words : (between : List ℕ) → Follows (Step g c) a between b → Orders g rules a between b → Ordered (Lists (words .fits)) a between b
+  to-words : (between : List ℕ) → Follows (Step g c) a between b → Orders g rules a between b → Ordered (Lists fits) a between b
   to-words between f o = let r = inside a between f in ordered-up n (λ p q h k. of .ruled p q h k .1) (r .0) (r .1) (r .2) o
 
   -- ---- the search at the first node
 
   abbrev Found : List ℕ → Type 0
-  Found = Next (words .succ) (words .fits) b (put 0 a) (getD (words .fits) a 0) a
+  Found = Next succ fits b (put 0 a) (getD fits a 0) a
 
   -- a route orders its ends, or the search finds it
   routed : (between : List ℕ) → Route g c a between b → Orders g rules a between b ⊎ Found (between ++ b ∷ [])
   routed between r =
       ⊎-elim (λ o. inl (to-graph between (r .follows) o)) inr
-      (found-or-ordered (words .succ) (words .fits) a b between a (carried-start (words .fits) a)
+      (found-or-ordered succ fits a b between a (carried-start fits a)
       (follows-up (λ p q. of .steps p q .1) a between b (r .follows)) (r .once .1)
       (apart-cons a [] (between ++ b ∷ []) (r .once .0) (apart-nil (between ++ b ∷ []))))
 
   shown : {l : List ℕ} → Earliest Found l → AskedWithout g rules c a b (a ∷ l)
-  shown {l} first = go (found-onward (words .succ) (words .fits) a b (first .one .1) (first .one .2) (carried-start (words .fits) a))
+  shown {l} first = go (found-onward succ fits a b (first .one .1) (first .one .2) (carried-start fits a))
     where
-      go : Onward (words .succ) (words .fits) a b (a ∷ []) [] a l → AskedWithout g rules c a b (a ∷ l)
+      go : Onward succ fits a b (a ∷ []) [] a l → AskedWithout g rules c a b (a ∷ l)
       go o = subst⁻¹ (λ (t : List ℕ). AskedWithout g rules c a b (a ∷ t)) (o .whole) (is-open record { route = route; unordered = unordered; first = earliest })
         where
           route : Route g c a (o .rest) b

@@ -19,7 +19,6 @@ use Rattle.graph.specs.Graph as Drawn
 use Rattle.graph.specs.Held.{Held, HeldWithout, Open}
 use Rattle.graph.specs.Value.{graphOf, rulesOf, ordersOf, Sized, Told}
 use Rattle.walk.specs.declared.Way.{Way}
-use Rattle.words.specs.declared.Words.{Words}
 use Rattle.walk.specs.Asked.{AskedOf}
 use Rattle.words.specs.Words.{WordsOf}
 use Rattle.graph.proofs.Value.{order-at}
@@ -27,23 +26,23 @@ use Rattle.graph.proofs.Counted.{counted-below}
 
 -- ---- what `open_orders` keeps: the flags below i are right
 
-abbrev pub Judged : Words → List Order → List Bool → ℕ → Type 0
-Judged words orders flags j = (route : List ℕ) × AskedOf words (order orders j .first) (order orders j .second) route × (getD flags j false ≡ ltb 0 (length route))
+abbrev pub Judged : List ℕ → List ℕ → List Order → List Bool → ℕ → Type 0
+Judged succ fits orders flags j = (route : List ℕ) × AskedOf succ fits (order orders j .first) (order orders j .second) route × (getD flags j false ≡ ltb 0 (length route))
 
-pub judged-more : (words : Words) (orders : List Order) (flags : List Bool) (i : ℕ) (way : Way)
-    → ((j : ℕ) → j < i → Judged words orders flags j)
+pub judged-more : (succ fits : List ℕ) (orders : List Order) (flags : List Bool) (i : ℕ) (way : Way)
+    → ((j : ℕ) → j < i → Judged succ fits orders flags j)
     → i < length flags
     → way .len ≤ length (way .nodes)
-    → AskedOf words (order orders i .first) (order orders i .second) (take (way .len) (way .nodes))
-    → (j : ℕ) → j < i + 1 → Judged words orders (set flags i (ltb 0 (way .len))) j
-judged-more words orders flags i way judged h fits shown j k = go (ℕ-discrete j i)
+    → AskedOf succ fits (order orders i .first) (order orders i .second) (take (way .len) (way .nodes))
+    → (j : ℕ) → j < i + 1 → Judged succ fits orders (set flags i (ltb 0 (way .len))) j
+judged-more succ fits orders flags i way judged h short shown j k = go (ℕ-discrete j i)
   where
     b : Bool
     b = ltb 0 (way .len)
 
-    go : Dec (j ≡ i) → Judged words orders (set flags i b) j
-    go (yes e) = subst⁻¹ (Judged words orders (set flags i b)) e
-        (take (way .len) (way .nodes), shown, getD-set-same flags i b false h ∙ ap (ltb 0) (sym (length-take-le (way .len) (way .nodes) fits)))
+    go : Dec (j ≡ i) → Judged succ fits orders (set flags i b) j
+    go (yes e) = subst⁻¹ (Judged succ fits orders (set flags i b)) e
+        (take (way .len) (way .nodes), shown, getD-set-same flags i b false h ∙ ap (ltb 0) (sym (length-take-le (way .len) (way .nodes) short)))
     go (no n) = let r = judged j (omega arith) in (r .0, r .1, getD-set-other flags i j b false n ∙ r .2)
 
 -- ---- a route is shown exactly of an open order
@@ -57,8 +56,8 @@ unshown-held route (is-held h) e = h
 unshown-held {b = b} route (is-open {between = l} s) e = absurd (true≢false (sym (lt-ltb 0 (length route) (omega arith)) ∙ e))
 
 module _ (g : Graph) (sized : Sized g) where
-  pub judged-told : (words : Words) (flags : List Bool) → WordsOf (graphOf g) (rulesOf g) [] words → ((j : ℕ) → j < g .«order_count» → Judged words (g .orders) flags j) → Told g flags
-  judged-told words flags of judged = record { is-open = open′; is-held = held′ }
+  pub judged-told : (succ fits : List ℕ) (flags : List Bool) → WordsOf (graphOf g) (rulesOf g) [] succ fits → ((j : ℕ) → j < g .«order_count» → Judged succ fits (g .orders) flags j) → Told g flags
+  judged-told succ fits flags of judged = record { is-open = open′; is-held = held′ }
     where
       below : (i : ℕ) → i < length (ordersOf g) → i < g .«order_count»
       below i h = counted-below (g .«order_count») (g .orders) i h

@@ -15,7 +15,7 @@ use Rattle.walk.specs.declared.Way.{Way}
 use Rattle.hope.specs.Rest.{Rest, Next}
 use Rattle.walk.specs.Search.{Answer, none, found}
 use Rattle.words.specs.Words.{listed}
-use Rattle.hope.proofs.Left.{Lowest}
+use Rattle.sets.specs.Whole.{Lowest}
 use Rattle.hope.proofs.Rest.{unset, rest-new, rest-first}
 
 module _ (succ fits : List ℕ) (goal : ℕ) where

@@ -12,17 +12,16 @@ use Rattle.graph.specs.Graph as Drawn
 use Rattle.graph.specs.Value.{ordersOf, Told}
 use Rattle.graph.proofs.Unique.{asked-unique}
 use Rattle.walk.specs.declared.Way.{Way}
-use Rattle.words.specs.declared.Words.{Words}
 use Rattle.walk.specs.Asked.{AskedOf}
 use Rattle.words.specs.Words.{WordsOf}
 
-pub route-unique : {g : Drawn.Graph} {rules : List Rule} {c : List ℕ} (words : Words) → WordsOf g rules c words → (a b : ℕ) (v w : Way)
+pub route-unique : {g : Drawn.Graph} {rules : List Rule} {c : List ℕ} (succ fits : List ℕ) → WordsOf g rules c succ fits → (a b : ℕ) (v w : Way)
     → v .len ≤ length (v .nodes)
     → w .len ≤ length (w .nodes)
-    → AskedOf words a b (take (v .len) (v .nodes))
-    → AskedOf words a b (take (w .len) (w .nodes))
+    → AskedOf succ fits a b (take (v .len) (v .nodes))
+    → AskedOf succ fits a b (take (w .len) (w .nodes))
     → (v .len ≡ w .len) × (take (v .len) (v .nodes) ≡ take (w .len) (w .nodes))
-route-unique {g} {rules} {c} words of a b v w p q x y =
+route-unique {g} {rules} {c} succ fits of a b v w p q x y =
     let e : take (v .len) (v .nodes) ≡ take (w .len) (w .nodes) = asked-unique (x g rules c of) (y g rules c of) in
     (sym (length-take-le (v .len) (v .nodes) p) ∙ ap length e ∙ length-take-le (w .len) (w .nodes) q, e)
 

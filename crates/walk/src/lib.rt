@@ -1,17 +1,18 @@
 // The walk along the routes of a graph, for the first one that does not order its ends.
-use flags::has;
-use flags::lowest;
-use flags::size;
-use flags::with;
-use flags::without;
-use flags::word;
 use graph::Graph;
 use hope::hopeful;
-use hope::into_word;
+use hope::into_set;
 use hope::marked;
 use hope::pairs::lost;
-use words::Words;
-use words::words_of;
+use sets::Set;
+use sets::has;
+use sets::lowest;
+use sets::none;
+use sets::size;
+use sets::with;
+use words::Sets;
+use words::fits_of;
+use words::succ_of;
 ghost use mathlib.Core.Path.{_≡_};
 ghost use mathlib.Core.Bool.{false};
 ghost use Prim.Native.Nat.{_<_, _≤_};
@@ -22,6 +23,7 @@ ghost use Rattle.graph.specs.Graph.{Sound, Orderly};
 ghost use Rattle.graph.specs.Limits.{most-nodes};
 ghost use Rattle.graph.specs.Value.{graphOf, ordersOf, Sized, Told};
 ghost use Rattle.walk.specs.Asked.{AskedOf};
+ghost use Rattle.sets.specs.Whole.{whole, rows};
 ghost use Rattle.hope.specs.Rest.{Rest, Next};
 ghost use Rattle.hope.specs.Hope.{Into};
 ghost use Rattle.walk.specs.Search.{Answer};
@@ -34,18 +36,18 @@ pub struct Way {
 
 // Visiting v, which is not on the route so far: that one's nodes are `visited`, and they stand at the start of `nodes`. The first way on.
 fn visit<'a>(
-    succ: &'a [u64; Graph::NODES],
-    fits: &'a [u64; Graph::NODES],
+    succ: &'a Sets,
+    fits: &'a Sets,
     goal: usize,
-    into: u64,
-    visited: u64,
-    after: u64,
+    into: Set,
+    visited: Set,
+    after: Set,
     nodes: [u16; Graph::NODES],
     v: usize,
 ) -> Way
-    requires { ⌜ (v < most-nodes) × (goal < most-nodes) × (flag visited v ≡ false) ⌝ }
-    requires { ⌜ (length (now succ) ≡ most-nodes) × Into (now fits) goal into ⌝ }
-    ensures { λ r. ⌜ Answer (Rest (now (succ .entry)) (now (fits .entry)) goal visited after v) (take (ones visited) nodes) r ⌝ }
+    requires { ⌜ (v < most-nodes) × (goal < most-nodes) × (flag (whole visited) v ≡ false) ⌝ }
+    requires { ⌜ (length (now succ) ≡ most-nodes) × Into (rows (now fits)) goal (whole into) ⌝ }
+    ensures { λ r. ⌜ Answer (Rest (rows (now (succ .entry))) (rows (now (fits .entry))) goal (whole visited) (whole after) v) (take (ones (whole visited)) nodes) r ⌝ }
 {
     let n = size(visited);
     let mut longer = nodes;
@@ -73,29 +75,28 @@ fn visit<'a>(
 
 // The trial of the edges of v, the last node on the route so far: each in turn, that to the lowest node first. The first way on.
 fn trial<'a>(
-    succ: &'a [u64; Graph::NODES],
-    fits: &'a [u64; Graph::NODES],
+    succ: &'a Sets,
+    fits: &'a Sets,
     goal: usize,
-    into: u64,
-    visited: u64,
-    after: u64,
+    into: Set,
+    visited: Set,
+    after: Set,
     nodes: [u16; Graph::NODES],
     v: usize,
 ) -> Way
     requires { ⌜ (v < most-nodes) × (goal < most-nodes) ⌝ }
-    requires { ⌜ (length (now succ) ≡ most-nodes) × Into (now fits) goal into ⌝ }
-    ensures { λ r. ⌜ Answer (Next (now (succ .entry)) (now (fits .entry)) goal visited after v) (take (ones visited) nodes) r ⌝ }
+    requires { ⌜ (length (now succ) ≡ most-nodes) × Into (rows (now fits)) goal (whole into) ⌝ }
+    ensures { λ r. ⌜ Answer (Next (rows (now (succ .entry))) (rows (now (fits .entry))) goal (whole visited) (whole after) v) (take (ones (whole visited)) nodes) r ⌝ }
 {
     if !hopeful(succ, fits, goal, into, visited, after, v) {
         return Way { len: 0, nodes };
     }
     let mut tried = visited;
     loop {
-        let left = without(word(succ[v]), tried);
-        if left == 0 {
+        let k = lowest(succ[v], tried);
+        if k == Graph::NODES {
             return Way { len: 0, nodes };
         }
-        let k = lowest(left);
         let way = visit(succ, fits, goal, into, visited, after, nodes, k);
         if 0 < way.len {
             return way;
@@ -103,23 +104,22 @@ fn trial<'a>(
         if lost(succ, fits, goal, into, visited, after, v, k) {
             return Way { len: 0, nodes };
         }
-        tried = with(tried, k);
+        let more = with(tried, k);
+        tried = more;
     }
 }
 
 // Whether the order (a, b) is held in a graph with these words: where it is, len is 0, and where not, this is the first route that does not
 // order its ends.
-pub fn open_route(words: Words, a: usize, b: usize) -> Way
-    requires { ⌜ (a < most-nodes) × (b < most-nodes) ⌝ }
-    ensures { λ r. ⌜ (r .len ≤ most-nodes) × AskedOf words a b (take (r .len) (r .nodes)) ⌝ }
+pub fn open_route<'a>(succ: &'a Sets, fits: &'a Sets, a: usize, b: usize) -> Way
+    requires { ⌜ (a < most-nodes) × (b < most-nodes) × (length (now succ) ≡ most-nodes) ⌝ }
+    ensures { λ r. ⌜ (r .len ≤ most-nodes) × AskedOf (rows (now (succ .entry))) (rows (now (fits .entry))) a b (take (r .len) (r .nodes)) ⌝ }
 {
-    let succ = words.succ;
-    let fits = words.fits;
     let after = fits[a];
     let mut nodes = [0u16; Graph::NODES];
     nodes[0] = a as u16;
-    let into = into_word(&fits, b);
-    trial(&succ, &fits, b, into, with(0, a), after, nodes, a)
+    let into = into_set(fits, b);
+    trial(succ, fits, b, into, with(none(), a), after, nodes, a)
 }
 
 // For each order whether it is open.
@@ -127,12 +127,13 @@ pub fn open_orders(g: Graph) -> [bool; Graph::ORDERS]
     requires { ⌜ Sized g × Sound (graphOf g) × Orderly (length ((graphOf g) .nodes)) (ordersOf g) ⌝ }
     ensures { λ r. ⌜ Told g r ⌝ }
 {
-    let words = words_of(g);
+    let succ = succ_of(g);
+    let fits = fits_of(g);
     let orders = g.orders;
     let mut open = [false; Graph::ORDERS];
     for i in 0..g.order_count {
         let order = orders[i];
-        let way = open_route(words, order.first as usize, order.second as usize);
+        let way = open_route(&succ, &fits, order.first as usize, order.second as usize);
         open[i] = 0 < way.len;
     }
     open

@@ -63,11 +63,11 @@ module _ (test : ℕ → ℕ → Bool) where
   abbrev pub Rows : ℕ → List ℕ → Type 0
   Rows i ws = (p q : ℕ) → listed ws p q ≡ (ltb p i && test p q)
 
-  pub rows-none : Rows 0 (replicate most-nodes 0)
-  rows-none p q = zero-words p q ∙ sym (ap (λ (b : Bool). b && test p q) (le-ltb p 0 (omega arith)))
+  pub rows-start : Rows 0 (replicate most-nodes 0)
+  rows-start p q = zero-words p q ∙ sym (ap (λ (b : Bool). b && test p q) (le-ltb p 0 (omega arith)))
 
-  pub rows-set : (i w : ℕ) (ws : List ℕ) → Rows i ws → i < length ws → ((q : ℕ) → flag w q ≡ test i q) → Rows (i + 1) (set ws i w)
-  rows-set i w ws g h f p q = go (ℕ-discrete p i)
+  pub row-filled : (i w : ℕ) (ws : List ℕ) → Rows i ws → i < length ws → ((q : ℕ) → flag w q ≡ test i q) → Rows (i + 1) (set ws i w)
+  row-filled i w ws g h f p q = go (ℕ-discrete p i)
     where
       go : Dec (p ≡ i) → listed (set ws i w) p q ≡ (ltb p (i + 1) && test p q)
       go (yes e) = rw e (ap (λ (x : ℕ). flag x q) (getD-set-same ws i w 0 h) ∙ f q ∙ sym (ap (λ (b : Bool). b && test i q) (lt-ltb i (i + 1) (omega arith))))

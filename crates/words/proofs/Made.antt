@@ -20,7 +20,6 @@ use Rattle.graph.specs.Graph.{Sound, label}
 use Rattle.graph.specs.Held.{Step}
 use Rattle.graph.specs.Value.{labels, graphOf, rulesOf, Sized}
 use Rattle.graph.proofs.Ruled.{says-ruled}
-use Rattle.words.specs.declared.Words.{Words}
 use Rattle.words.specs.Words.{WordsOf, listed, Led, labelAt, fitIn}
 use Rattle.graph.proofs.Counted.{counted-below, labels-few}
 
@@ -50,23 +49,23 @@ module _ (g : Graph) (sized : Sized g) (sound : Sound (graphOf g)) where
         sym (ap (λ (x : Edge). x .to) (edge-at g j k)) ∙ t,
       )
 
-  pub words-made : (words : Words)
-      → ((p q : ℕ) → (listed (words .succ) p q ≡ true) ↔ Led (g .edges) (g .«edge_count») p q)
-      → ((p q : ℕ) → listed (words .fits) p q ≡ fitIn (g .nodes) (g .«node_count») (rulesOf g) p q)
-      → WordsOf (graphOf g) (rulesOf g) [] words
-  words-made words led fit = record {
+  pub words-made : (succ fits : List ℕ)
+      → ((p q : ℕ) → (listed succ p q ≡ true) ↔ Led (g .edges) (g .«edge_count») p q)
+      → ((p q : ℕ) → listed fits p q ≡ fitIn (g .nodes) (g .«node_count») (rulesOf g) p q)
+      → WordsOf (graphOf g) (rulesOf g) [] succ fits
+  words-made succ fits led fit = record {
     sound = sound;
     steps = λ p q. (λ e. led-step p q (led p q .0 e), λ s. led p q .1 (step-led p q s));
     ruled = ruled′;
   }
     where
       ruled′ : (p q : ℕ) → p < length ((graphOf g) .nodes) → q < length ((graphOf g) .nodes)
-          → (listed (words .fits) p q ≡ true) ↔ Ruled (rulesOf g) (label (graphOf g) p) (label (graphOf g) q)
+          → (listed fits p q ≡ true) ↔ Ruled (rulesOf g) (label (graphOf g) p) (label (graphOf g) q)
       ruled′ p q h k =
           let lp : label (graphOf g) p ≡ labelAt (g .nodes) p = label-take (g .nodes) (g .«node_count») p h in
           let lq : label (graphOf g) q ≡ labelAt (g .nodes) q = label-take (g .nodes) (g .«node_count») q k in
           let says = says-ruled (rulesOf g) (label (graphOf g) p) (label (graphOf g) q) in
-          let test : listed (words .fits) p q ≡ ruledb (rulesOf g) (label (graphOf g) p) (label (graphOf g) q) =
+          let test : listed fits p q ≡ ruledb (rulesOf g) (label (graphOf g) p) (label (graphOf g) q) =
           fit p q
           ∙ ap₂ (λ (x y : Bool). x && (y && ruledb (rulesOf g) (labelAt (g .nodes) p) (labelAt (g .nodes) q)))
           (lt-ltb p (g .«node_count») (omega (arith, h, labels-few (g .nodes) (g .«node_count»)))) (lt-ltb q (g .«node_count») (omega (arith, k, labels-few (g .nodes) (g .«node_count»))))

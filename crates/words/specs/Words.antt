@@ -16,17 +16,16 @@ use Rattle.graph.specs.declared.Rule.{Rule}
 use Rattle.graph.specs.Fit.{Ruled, ruledb}
 use Rattle.graph.specs.Graph.{Graph, Sound, label, no-edge}
 use Rattle.graph.specs.Held.{Step}
-use Rattle.words.specs.declared.Words.{Words}
 
 -- q is in the word of p
 abbrev pub listed : List ℕ → ℕ → ℕ → Bool
 listed words p q = flag (getD words p 0) q
 
 -- the words of g without the edges in c, and of the rules
-pub record WordsOf (g : Graph) (rules : List Rule) (c : List ℕ) (words : Words) : Type 0 where
+pub record WordsOf (g : Graph) (rules : List Rule) (c succ fits : List ℕ) : Type 0 where
   pub sound : Sound g
-  pub steps : (p q : ℕ) → (listed (words .succ) p q ≡ true) ↔ Step g c p q
-  pub ruled : (p q : ℕ) → p < length (g .nodes) → q < length (g .nodes) → (listed (words .fits) p q ≡ true) ↔ Ruled rules (label g p) (label g q)
+  pub steps : (p q : ℕ) → (listed succ p q ≡ true) ↔ Step g c p q
+  pub ruled : (p q : ℕ) → p < length (g .nodes) → q < length (g .nodes) → (listed fits p q ≡ true) ↔ Ruled rules (label g p) (label g q)
 
 -- ---- what they are filled from
 

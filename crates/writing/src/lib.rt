@@ -81,7 +81,7 @@ fn put_orders(out: &mut [u8], at: usize, orders: [Order; Graph::ORDERS], n: usiz
 // How many bytes the request that a graph holds is.
 pub fn size_of(g: Graph) -> usize
     requires { ⌜ Sized g ⌝ }
-    ensures { λ r. ⌜ (r ≡ sizeOf g) × (r < 4096) ⌝ }
+    ensures { λ r. ⌜ (r ≡ sizeOf g) × (r < 16384) ⌝ }
 {
     g.node_count * 4 + g.edge_count * 8 + g.rule_count * 6 + g.order_count * 6 + 2
 }

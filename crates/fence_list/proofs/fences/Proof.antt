@@ -5,7 +5,7 @@ use Rattle.fence_list.proofs.fences.Statement.{statement}
 use Rattle.fence_list.proofs.fences.Tie as tie
 
 abbrev Inv-loop : tie.InvT-loop
-Inv-loop k n m edges v₀ v = (v ≤ n) × (n ≤ 64) × (m ≤ 192)
+Inv-loop k n m edges v₀ v = (v ≤ n) × (n ≤ 512) × (m ≤ 1024)
 
 abbrev μ-loop : tie.MeasureT-loop
 μ-loop k n m edges v₀ v = n - v

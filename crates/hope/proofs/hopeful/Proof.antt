@@ -1,24 +1,35 @@
--- `hope::hopeful` meets its contract: node by node; the words only fall, and bound every way on.
+-- `hope::hopeful` meets its contract: node by node; the sets only fall, and bound every way on.
 use mathlib.Core.Bool.{true≢false}
-use mathlib.Core.Path.{sym, ap, _∙_}
-use Prim.Native.Nat.{ℕ, _*_, _-_, _≤_, _<_, _^_}
+use mathlib.Core.List.{List}
+use mathlib.Core.Path.{_≡_, refl, sym, ap, _∙_}
+use Prim.Native.Nat.{ℕ, _*_, _-_, _≤_, _<_}
 use native.Mathlib.Omega.{arith}
-use borrow.Author.Needs.{needs}
+use lib.ListN.{replicate}
 use borrow.Author.Tests.{not-false}
-use Rattle.flags.specs.Flag.{flag, either, less}
-use Rattle.flags.proofs.Least.{lowest-lt}
+use Rattle.flags.specs.Flag.{flag, put, either, less}
 use Rattle.graph.specs.Limits.{most-nodes}
+use Rattle.sets.specs.Whole.{whole, rows}
+use Rattle.sets.proofs.Rows.{row-at, rows-same, rows-length}
+use Rattle.sets.proofs.Leading.{all-out}
 use Rattle.hope.specs.Rest.{mark}
 use Rattle.hope.proofs.Hope.{ordered-already}
-use Rattle.hope.proofs.Reached.{Kept, kept-start, kept-on, kept-all}
+use Rattle.hope.proofs.Reached.{Kept, spread, kept-start, kept-on, kept-all}
+use borrow.Author.Needs.{needs}
 use Rattle.hope.proofs.hopeful.Statement.{statement}
 use Rattle.hope.proofs.hopeful.Tie as tie
 
 abbrev Inv-loop : tie.InvT-loop
-Inv-loop succ fits goal into visited after v least₀ first left₀ -round₀ least left -round = (-round ≤ most-nodes * most-nodes) × (left < 2 ^ 64) × Kept succ fits into visited after v least left
+Inv-loop succ fits goal into visited v least₀ left₀ -round₀ least left -round = (-round ≤ most-nodes * most-nodes) × Kept (rows succ) (rows fits) (whole into) (whole visited) (rows least₀) (rows least) (whole left)
 
 abbrev μ-loop : tie.MeasureT-loop
-μ-loop succ fits goal into visited after v least₀ first left₀ -round₀ least left -round = most-nodes * most-nodes - -round
+μ-loop succ fits goal into visited v least₀ left₀ -round₀ least left -round = most-nodes * most-nodes - -round
+
+abbrev all : ℕ
+all = 18446744073709551615
+
+-- the node that is looked at
+low : (c : tie.Else3 Inv-loop μ-loop) → c .before .lowest .result < most-nodes
+low c = c .before .lowest .ensures .one (c .if3 .left) .node
 
 has-requires : tie.Need-has-requires Inv-loop μ-loop
 has-requires c κs = search needs
@@ -26,16 +37,13 @@ has-requires c κs = search needs
 returns : tie.Need-returns Inv-loop μ-loop
 returns c =
     let s = c .before .before in
-    λ e. ordered-already (s .args .succ .now) (s .args .fits .now) (s .args .goal) (s .args .into) (s .args .visited) (s .args .after) (s .pre .1 .1) (s .args .v) (sym (c .before .has .ensures) ∙ c .if1 .taken)
+    λ e. ordered-already (rows (s .args .succ .now)) (rows (s .args .fits .now)) (s .args .goal) (whole (s .args .into)) (whole (s .args .visited)) (whole (s .args .after)) (s .pre .1 .1) (s .args .v) (sym (c .before .has .ensures) ∙ c .if1 .taken)
 
-mul-word : tie.Need-mul-word Inv-loop μ-loop
-mul-word c = search needs
+mul-without : tie.Need-mul-without Inv-loop μ-loop
+mul-without c = search needs
 
-element-copy-out-word : tie.Need-element-copy-out-word Inv-loop μ-loop
-element-copy-out-word c = search needs
-
-word-requires : tie.Need-word-requires Inv-loop μ-loop
-word-requires c κs = search needs
+element-copy-out-without : tie.Need-element-copy-out-without Inv-loop μ-loop
+element-copy-out-without c = search needs
 
 both-requires : tie.Need-both-requires Inv-loop μ-loop
 both-requires c κs = search needs
@@ -51,21 +59,16 @@ lower-requires c κs = search needs
 
 loop-holds : tie.Need-loop-holds Inv-loop μ-loop
 loop-holds c =
-    let s = c .before .before .before .before .before .before .before .before .before in (
+    let s = c .before .before .before .before .before .before .before .before in (
       search needs,
-      c .lower .ok,
-      kept-start (s .args .succ .now) (s .args .fits .now) (s .args .into) (s .args .visited) (s .args .after) (s .args .v) _ _ (c .before .before .before .before .before .word .result) (c .before .before .without .result) (c .lower .result) (s .pre .1 .0)
-          (c .before .before .before .before .before .word .ensures) (c .before .before .without .ensures ∙ ap (less (c .before .before .before .before .before .word .result)) (c .before .before .before .either .ensures ∙ ap (either (s .args .visited)) (c .before .before .before .before .both .ensures))) (c .lower .ensures),
+      kept-start (rows (s .args .succ .now)) (rows (s .args .fits .now)) (whole (s .args .into)) (whole (s .args .visited)) _ _ _ _ _ _ (rows-length (s .args .succ .now) ∙ s .pre .1 .0) (rows-same most-nodes (replicate 8 all)) (c .lower .ensures),
     )
 
-mul-word-2 : tie.Need-mul-word-2 Inv-loop μ-loop
-mul-word-2 c = search needs
+mul-has : tie.Need-mul-has Inv-loop μ-loop
+mul-has c = search needs
 
-array-read-word : tie.Need-array-read-word Inv-loop μ-loop
-array-read-word c = search needs
-
-word-requires-2 : tie.Need-word-requires-2 Inv-loop μ-loop
-word-requires-2 c κs = search needs
+array-copy-out-has : tie.Need-array-copy-out-has Inv-loop μ-loop
+array-copy-out-has c = search needs
 
 has-requires-2 : tie.Need-has-requires-2 Inv-loop μ-loop
 has-requires-2 c κs = search needs
@@ -73,36 +76,43 @@ has-requires-2 c κs = search needs
 returns-2 : tie.Need-returns-2 Inv-loop μ-loop
 returns-2 c = λ e. absurd (true≢false e)
 
-returns-3 : tie.Need-returns-3 Inv-loop μ-loop
-returns-3 c =
-    let s = c .before .before .before .before .before .before .before .before .before .before .before .before .before .before .before in
-    let l = c .before .before .before .before .before .loop in
-    let lost = ap (λ (w : ℕ). flag w (s .args .goal)) (sym (c .before .before .before .word2 .ensures)) ∙ sym (c .before .before .has2 .ensures) ∙ not-false _ (c .before .if2 .left) in
-    λ e. kept-all (s .args .succ .now) (s .args .fits .now) (s .args .into) (s .args .visited) (s .args .after) (s .args .v) (s .args .goal) (s .pre .1 .1) (l .least) (l .left) (l .inv .2) (c .if3 .taken) lost
+none-requires : tie.Need-none-requires Inv-loop μ-loop
+none-requires c κs = search needs
 
 lowest-requires : tie.Need-lowest-requires Inv-loop μ-loop
 lowest-requires c κs = search needs
 
-mul-word-3 : tie.Need-mul-word-3 Inv-loop μ-loop
-mul-word-3 c = omega (arith, lowest-lt (c .before .before .before .before .before .before .loop .left) (c .before .before .before .before .before .before .loop .inv .1) (c .before .if3 .left), c .lowest .ensures)
+returns-3 : tie.Need-returns-3 Inv-loop μ-loop
+returns-3 c =
+    let lo = c .before in
+    let el = lo .before .before in
+    let h = el .before in
+    let al = h .before .before .before in
+    let lw = al .before in
+    let wo = lw .before .before in
+    let ei = wo .before in
+    let s = ei .before .before .before .before .before in
+    let succ = rows (s .args .succ .now) in
+    let start = spread succ (rows (s .args .fits .now)) (whole (s .args .into)) (whole (s .args .visited)) (s .args .v) (whole (s .args .after)) _ _ (sym (row-at (s .args .succ .now) (s .args .v)))
+    (wo .without .ensures ∙ ap (less _) (ei .either .ensures ∙ ap (either (whole (s .args .visited))) (ei .before .both .ensures))) (lw .lower .ensures) in
+    let lost = ap (λ (w : ℕ). flag w (s .args .goal)) (row-at (al .loop .least) (s .args .goal)) ∙ sym (h .has2 .ensures) ∙ not-false _ (el .if2 .left) in
+    λ e. kept-all succ (rows (s .args .fits .now)) (whole (s .args .into)) (whole (s .args .visited)) (whole (s .args .after)) (s .args .v) (s .args .goal) (s .pre .1 .1) _ (rows (al .loop .least)) (whole (al .loop .left)) start (al .loop .inv .1)
+    (all-out _ _ (lo .before .none .ensures) (lo .lowest .ensures .none (c .if3 .taken))) lost
 
-array-read-word-2 : tie.Need-array-read-word-2 Inv-loop μ-loop
-array-read-word-2 c = omega (arith, lowest-lt (c .before .before .before .before .before .before .loop .left) (c .before .before .before .before .before .before .loop .inv .1) (c .before .if3 .left), c .lowest .ensures)
+mul-marked : tie.Need-mul-marked Inv-loop μ-loop
+mul-marked c = omega (arith, low c)
 
-word-requires-3 : tie.Need-word-requires-3 Inv-loop μ-loop
-word-requires-3 c κs = search needs
+array-copy-out-marked : tie.Need-array-copy-out-marked Inv-loop μ-loop
+array-copy-out-marked c = low c
 
 marked-requires : tie.Need-marked-requires Inv-loop μ-loop
-marked-requires c κs = omega (arith, lowest-lt (c .before .before .before .before .before .before .before .loop .left) (c .before .before .before .before .before .before .before .loop .inv .1) (c .before .before .if3 .left), c .before .lowest .ensures)
+marked-requires c κs = low (c .before)
 
-mul-word-4 : tie.Need-mul-word-4 Inv-loop μ-loop
-mul-word-4 c = omega (arith, lowest-lt (c .before .before .before .before .before .before .before .before .loop .left) (c .before .before .before .before .before .before .before .before .loop .inv .1) (c .before .before .before .if3 .left), c .before .before .lowest .ensures)
+mul-without-2 : tie.Need-mul-without-2 Inv-loop μ-loop
+mul-without-2 c = omega (arith, low (c .before .before))
 
-element-copy-out-word-2 : tie.Need-element-copy-out-word-2 Inv-loop μ-loop
-element-copy-out-word-2 c = omega (arith, lowest-lt (c .before .before .before .before .before .before .before .before .loop .left) (c .before .before .before .before .before .before .before .before .loop .inv .1) (c .before .before .before .if3 .left), c .before .before .lowest .ensures)
-
-word-requires-4 : tie.Need-word-requires-4 Inv-loop μ-loop
-word-requires-4 c κs = search needs
+element-copy-out-without-2 : tie.Need-element-copy-out-without-2 Inv-loop μ-loop
+element-copy-out-without-2 c = low (c .before .before)
 
 both-requires-2 : tie.Need-both-requires-2 Inv-loop μ-loop
 both-requires-2 c κs = search needs
@@ -116,8 +126,11 @@ without-requires-2 c κs = search needs
 lower-requires-2 : tie.Need-lower-requires-2 Inv-loop μ-loop
 lower-requires-2 c κs = search needs
 
+none-requires-2 : tie.Need-none-requires-2 Inv-loop μ-loop
+none-requires-2 c κs = search needs
+
 with-requires : tie.Need-with-requires Inv-loop μ-loop
-with-requires c κs = omega (arith, lowest-lt (c .before .before .before .before .before .before .before .before .before .before .before .before .before .before .before .loop .left) (c .before .before .before .before .before .before .before .before .before .before .before .before .before .before .before .loop .inv .1) (c .before .before .before .before .before .before .before .before .before .before .if3 .left), c .before .before .before .before .before .before .before .before .before .lowest .ensures)
+with-requires c κs = low (c .before .before .before .before .before .before .before .before .before)
 
 without-requires-3 : tie.Need-without-requires-3 Inv-loop μ-loop
 without-requires-3 c κs = search needs
@@ -133,15 +146,24 @@ loop-less c = search needs
 
 loop-again : tie.Need-loop-again Inv-loop μ-loop
 loop-again c =
-    let s = c .before .before .before .before .before .before .before .before .before .before .before .before .before .before .before .before .before .before .before .before .before .before .before .before .before .before .before .before in
-    let l = c .before .before .before .before .before .before .before .before .before .before .before .before .before .before .before .before .before .before .loop in
-    let x = c .before .before .before .before .before .before .before .before .before .before .before .before .lowest .result in
-    let m = c .before .before .before .before .before .before .before .before .before .before .marked .ensures ∙ ap (λ (w : ℕ). mark (s .args .fits .now) w x) (c .before .before .before .before .before .before .before .before .before .before .before .word3 .ensures) in
-    let next = c .before .before .before .before .before .without2 .ensures ∙ ap (less (c .before .before .before .before .before .before .before .before .word4 .result)) (c .before .before .before .before .before .before .either2 .ensures ∙ ap (either (s .args .visited)) (c .before .before .before .before .before .before .before .both2 .ensures)) in (
-      search needs,
-      c .either3 .ok,
-      kept-on (s .args .succ .now) (s .args .fits .now) (s .args .into) (s .args .visited) (s .args .after) (s .args .v) (l .least) _ (l .left) x (c .before .before .before .before .before .before .before .before .before .before .marked .result) (c .before .before .before .before .before .before .before .before .word4 .result) (c .before .before .before .before .before .without2 .result) (c .before .before .before .lower2 .result)
-          (c .before .before .with .result) (c .before .without3 .result) (c .either3 .result) m (c .before .before .before .before .before .before .before .before .word4 .ensures) next (c .before .before .before .lower2 .ensures) (c .before .before .with .ensures) (c .before .without3 .ensures) (c .either3 .ensures) (l .inv .2),
+    let wi = c .before .before in
+    let n2 = wi .before in
+    let l2 = n2 .before in
+    let wo = l2 .before .before in
+    let ei = wo .before in
+    let ma = ei .before .before .before in
+    let e3 = ma .before .before in
+    let x = e3 .before .lowest .result in
+    let il = e3 .before .before .before .before .before .before in
+    let al = il .before in
+    let s = al .before .before .before .before .before .before .before .before .before in
+    let l = al .loop in (
+      omega (arith, il .loop-test .taken),
+      kept-on (rows (s .args .succ .now)) (rows (s .args .fits .now)) (whole (s .args .into)) (whole (s .args .visited)) _ (rows (l .least)) _ (whole (l .left)) x (whole (ma .marked .result)) _ (whole (wo .without2 .result)) (whole (l2 .lower2 .result)) (whole (wi .with .result)) (whole (c .before .without3 .result)) (whole (c .either3 .result))
+          (ma .marked .ensures ∙ ap (λ (w : ℕ). mark (rows (s .args .fits .now)) w x) (sym (row-at (l .least) x)))
+          (sym (row-at (s .args .succ .now) x))
+          (wo .without2 .ensures ∙ ap (less _) (ei .either2 .ensures ∙ ap (either (whole (s .args .visited))) (ei .before .both2 .ensures)))
+          (l2 .lower2 .ensures) (wi .with .ensures .0 ∙ ap (λ (w : ℕ). put w x) (n2 .none2 .ensures)) (c .before .without3 .ensures) (c .either3 .ensures) (l .inv .1),
     )
 
 returns-4 : tie.Need-returns-4 Inv-loop μ-loop
@@ -155,32 +177,30 @@ hopeful-spec =
     μ-loop
     has-requires
     returns
-    mul-word
-    element-copy-out-word
-    word-requires
+    mul-without
+    element-copy-out-without
     both-requires
     either-requires
     without-requires
     lower-requires
     loop-holds
-    mul-word-2
-    array-read-word
-    word-requires-2
+    mul-has
+    array-copy-out-has
     has-requires-2
     returns-2
-    returns-3
+    none-requires
     lowest-requires
-    mul-word-3
-    array-read-word-2
-    word-requires-3
+    returns-3
+    mul-marked
+    array-copy-out-marked
     marked-requires
-    mul-word-4
-    element-copy-out-word-2
-    word-requires-4
+    mul-without-2
+    element-copy-out-without-2
     both-requires-2
     either-requires-2
     without-requires-2
     lower-requires-2
+    none-requires-2
     with-requires
     without-requires-3
     either-requires-3

@@ -1,9 +1,11 @@
 -- `hope::marked` meets its contract: by whether v is ordered after the first.
 use mathlib.Core.Path.{sym, ap, _∙_}
-use borrow.Author.Needs.{needs}
 use borrow.Author.Tests.{not-true, not-false}
 use Rattle.flags.specs.Flag.{either}
+use Rattle.sets.specs.Whole.{whole, rows}
+use Rattle.sets.proofs.Rows.{row-at}
 use Rattle.hope.proofs.Rest.{mark-same, mark-more}
+use borrow.Author.Needs.{needs}
 use Rattle.hope.proofs.marked.Statement.{statement}
 use Rattle.hope.proofs.marked.Tie as tie
 
@@ -13,34 +15,25 @@ has-requires c κs = search needs
 returns : tie.Need-returns
 returns c =
     let s = c .before .before .args in
-    sym (mark-same (s .fits .now) (s .after) (s .v) (sym (c .before .has .ensures) ∙ not-true _ (c .if1 .taken)))
+    sym (mark-same (rows (s .fits .now)) (whole (s .after)) (s .v) (sym (c .before .has .ensures) ∙ not-true _ (c .if1 .taken)))
 
-mul-word : tie.Need-mul-word
-mul-word c = search needs
+mul-either : tie.Need-mul-either
+mul-either c = search needs
 
-element-copy-out-word : tie.Need-element-copy-out-word
-element-copy-out-word c = search needs
-
-word-requires : tie.Need-word-requires
-word-requires c κs = search needs
+element-copy-out-either : tie.Need-element-copy-out-either
+element-copy-out-either c = search needs
 
 either-requires : tie.Need-either-requires
 either-requires c κs = search needs
 
 returns-2 : tie.Need-returns-2
 returns-2 c =
-    let s = c .before .before .before .before .before .args in
-    c .either .ensures ∙ ap (either (s .after)) (c .before .word .ensures)
-    ∙ sym (mark-more (s .fits .now) (s .after) (s .v) (sym (c .before .before .before .before .has .ensures) ∙ not-false _ (c .before .before .before .if1 .left)))
+    let e = c .before .before in
+    let s = e .before .before .args in
+    c .either .ensures ∙ ap (either (whole (s .after))) (sym (row-at (s .fits .now) (s .v)))
+    ∙ sym (mark-more (rows (s .fits .now)) (whole (s .after)) (s .v) (sym (e .before .has .ensures) ∙ not-false _ (e .if1 .left)))
 
 pub marked-spec : {M : Type 1} → statement M
 marked-spec =
     tie.close
-    (tie.spec
-    has-requires
-    returns
-    mul-word
-    element-copy-out-word
-    word-requires
-    either-requires
-    returns-2)
+    (tie.spec has-requires returns mul-either element-copy-out-either either-requires returns-2)

@@ -21,7 +21,7 @@ abbrev μ-loop2 : tie.MeasureT-loop2
 μ-loop2 from to links left a goal n r₀ i u d e₀ r e = length from - e
 
 abbrev Inv-loop : tie.InvT-loop
-Inv-loop from to links left a goal n r₀ i₀ r i = Reached from to left goal r i × (255 ≤ getD (r .dist) a 0)
+Inv-loop from to links left a goal n r₀ i₀ r i = Reached from to left goal r i × (65535 ≤ getD (r .dist) a 0)
 
 abbrev μ-loop : tie.MeasureT-loop
 μ-loop from to links left a goal n r₀ i₀ r i = most-nodes - i
@@ -48,6 +48,13 @@ module _ (w : tie.After-wide3 Inv-loop2 μ-loop2 Inv-loop μ-loop) where
   within : w .wide3 .result < most-nodes
   within = omega (arith, w .wide3 .ensures .0, net (edge .before) .tail (edge .before .loop2 .e) (edge .loop2-test .taken))
 
+-- the node that is looked at
+at-node : (c : tie.After-wide Inv-loop2 μ-loop2 Inv-loop μ-loop) → c .wide .result < most-nodes
+at-node c =
+    let l = c .before .before .before in
+    let st = l .before .before .before .before in
+    node-known _ _ _ _ _ (st .pre .0 .0) (st .pre .0 .1) _ _ _ _ _ _ 0 (l .loop .inv .0) (omega (arith, c .before .before .loop-test .taken)) (c .wide .ensures .0)
+
 start-requires : tie.Need-start-requires Inv-loop2 μ-loop2 Inv-loop μ-loop
 start-requires c κs = search needs
 
@@ -63,13 +70,10 @@ wide-requires : tie.Need-wide-requires Inv-loop2 μ-loop2 Inv-loop μ-loop
 wide-requires c κs = search needs
 
 element-copy-out-d : tie.Need-element-copy-out-d Inv-loop2 μ-loop2 Inv-loop μ-loop
-element-copy-out-d c =
-    let l = c .before .before .before in
-    let st = l .before .before .before .before in
-    node-known _ _ _ _ _ (st .pre .0 .0) (st .pre .0 .1) _ _ _ _ _ _ 0 (l .loop .inv .0) (omega (arith, c .before .before .loop-test .taken)) (c .wide .ensures .0)
+element-copy-out-d c = at-node c
 
 element-copy-out-wide-2 : tie.Need-element-copy-out-wide-2 Inv-loop2 μ-loop2 Inv-loop μ-loop
-element-copy-out-wide-2 c = search needs
+element-copy-out-wide-2 c = omega (arith, at-node (c .before))
 
 wide-requires-2 : tie.Need-wide-requires-2 Inv-loop2 μ-loop2 Inv-loop μ-loop
 wide-requires-2 c κs = search needs
@@ -187,6 +191,36 @@ returns-2 c =
     let st = l .before .before .before .before in
     none-found _ _ _ (l .loop .r .dist) _ _ _ (spread-shut _ _ _ _ _ _ _ _ _ _ (l .loop .inv .0) (st .pre .0 .0) (omega (arith, c .before .loop-test .left))) (l .loop .inv .0 .aim) (l .loop .inv .1) (c .no-route .ensures .0)
 
+mul-wide : tie.Need-mul-wide Inv-loop2 μ-loop2 Inv-loop μ-loop
+mul-wide c = search needs
+
+mul-d : tie.Need-mul-d Inv-loop2 μ-loop2 Inv-loop μ-loop
+mul-d c = search needs
+
+mul-wide-2 : tie.Need-mul-wide-2 Inv-loop2 μ-loop2 Inv-loop μ-loop
+mul-wide-2 c = search needs
+
+mul-f : tie.Need-mul-f Inv-loop2 μ-loop2 Inv-loop μ-loop
+mul-f c = search needs
+
+mul-if2 : tie.Need-mul-if2 Inv-loop2 μ-loop2 Inv-loop μ-loop
+mul-if2 c = search needs
+
+mul-r : tie.Need-mul-r Inv-loop2 μ-loop2 Inv-loop μ-loop
+mul-r c = search needs
+
+mul-r-2 : tie.Need-mul-r-2 Inv-loop2 μ-loop2 Inv-loop μ-loop
+mul-r-2 c = search needs
+
+mul-r-3 : tie.Need-mul-r-3 Inv-loop2 μ-loop2 Inv-loop μ-loop
+mul-r-3 c = search needs
+
+mul-wide-3 : tie.Need-mul-wide-3 Inv-loop2 μ-loop2 Inv-loop μ-loop
+mul-wide-3 c = search needs
+
+mul-if3 : tie.Need-mul-if3 Inv-loop2 μ-loop2 Inv-loop μ-loop
+mul-if3 c = search needs
+
 pub find-route-spec : {M : Type 1} → statement M
 find-route-spec =
     tie.close
@@ -197,29 +231,39 @@ find-route-spec =
     μ-loop
     start-requires
     loop-holds
+    mul-wide
     element-copy-out-wide
     wide-requires
+    mul-d
     element-copy-out-d
+    mul-wide-2
     element-copy-out-wide-2
     wide-requires-2
     loop2-holds
     mul-if1
     element-copy-out-if1
+    mul-f
     shared-slice-read-f
     wide-requires-3
+    mul-if2
     element-copy-out-if2
     add-r
+    mul-r
     element-write-r
     cast-r
+    mul-r-2
     element-write-r-2
+    mul-r-3
     element-write-r-3
     add-r-2
     add-wide
+    mul-wide-3
     element-copy-out-wide-3
     wide-requires-4
     loop2-less
     loop2-again
     add-i
+    mul-if3
     element-copy-out-if3
     trace-requires
     returns

@@ -17,6 +17,14 @@ Inv-loop to n l₀ e₀ l e = (e ≤ length to) × (length (l .entries) ≡ most
 abbrev μ-loop : tie.MeasureT-loop
 μ-loop to n l₀ e₀ l e = e
 
+-- the node where the edge ends
+below : (w : tie.After-wide Inv-loop μ-loop) → w .wide .result < most-nodes
+below w =
+    let i = w .before .before in
+    let l = i .before in
+    let st = l .before .before in
+    omega (arith, w .wide .ensures .0, st .pre .1 (l .loop .e - 1) (omega (arith, l .loop .inv .0, i .loop-test .taken)))
+
 cast-t6 : tie.Need-cast-t6 Inv-loop μ-loop
 cast-t6 c = search needs
 
@@ -33,7 +41,7 @@ wide-requires : tie.Need-wide-requires Inv-loop μ-loop
 wide-requires c κs = search needs
 
 element-copy-out-l : tie.Need-element-copy-out-l Inv-loop μ-loop
-element-copy-out-l c = search needs
+element-copy-out-l c = omega (arith, below c)
 
 add-l : tie.Need-add-l Inv-loop μ-loop
 add-l c = search needs
@@ -45,7 +53,7 @@ cast-l : tie.Need-cast-l Inv-loop μ-loop
 cast-l c = search needs
 
 element-write-l-2 : tie.Need-element-write-l-2 Inv-loop μ-loop
-element-write-l-2 c = search needs
+element-write-l-2 c = omega (arith, below (c .before))
 
 loop-less : tie.Need-loop-less Inv-loop μ-loop
 loop-less c = search needs
@@ -63,6 +71,18 @@ loop-again c =
 returns : tie.Need-returns Inv-loop μ-loop
 returns c = (c .before .loop .inv .1, subst (Linked _ _) (let z : c .before .loop .e ≡ 0 = omega (arith, c .loop-test .left) in z) (c .before .loop .inv .2))
 
+mul-wide : tie.Need-mul-wide Inv-loop μ-loop
+mul-wide c = search needs
+
+mul-l : tie.Need-mul-l Inv-loop μ-loop
+mul-l c = search needs
+
+mul-l-2 : tie.Need-mul-l-2 Inv-loop μ-loop
+mul-l-2 c = search needs
+
+mul-l-3 : tie.Need-mul-l-3 Inv-loop μ-loop
+mul-l-3 c = search needs
+
 pub link-spec : {M : Type 1} → statement M
 link-spec =
     tie.close
@@ -72,12 +92,16 @@ link-spec =
     cast-t6
     loop-holds
     sub-e
+    mul-wide
     shared-slice-read-wide
     wide-requires
+    mul-l
     element-copy-out-l
     add-l
+    mul-l-2
     element-write-l
     cast-l
+    mul-l-3
     element-write-l-2
     loop-less
     loop-again

@@ -66,19 +66,35 @@ returns c = let l = c .before in
     let i = l .loop .inv in
     trace-end _ _ _ _ (st .pre .0) _ _ _ _ _ (st .pre .1 .1) _ _ _ _ _ (st .pre .1 .0 .0) (st .pre .1 .0 .1) (l .before .before .wide .ensures .0) (i .3) (i .1) (omega (arith, i .0, c .loop-test .left)) (i .2) (i .4)
 
+mul-wide : tie.Need-mul-wide Inv-loop μ-loop
+mul-wide c = search needs
+
+mul-e : tie.Need-mul-e Inv-loop μ-loop
+mul-e c = search needs
+
+mul-o : tie.Need-mul-o Inv-loop μ-loop
+mul-o c = search needs
+
+mul-wide-2 : tie.Need-mul-wide-2 Inv-loop μ-loop
+mul-wide-2 c = search needs
+
 pub trace-spec : {M : Type 1} → statement M
 trace-spec =
     tie.close
     (tie.spec
     Inv-loop
     μ-loop
+    mul-wide
     element-copy-out-wide
     wide-requires
     no-route-requires
     loop-holds
+    mul-e
     element-copy-out-e
+    mul-o
     element-write-o
     wide-requires-2
+    mul-wide-2
     shared-slice-read-wide
     wide-requires-3
     add-i

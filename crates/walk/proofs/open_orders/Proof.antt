@@ -3,21 +3,26 @@ use mathlib.Core.Path.{_≡_, refl, _∙_}
 use Prim.Native.Nat.{ℕ, _<_, _≤_, _-_}
 use native.Mathlib.Omega.{arith}
 use lib.ListN.{length, length-set}
-use borrow.Author.Needs.{needs}
 use Rattle.graph.specs.Limits.{most-nodes, most-orders}
 use Rattle.graph.proofs.Counted.{nodes-few, all-named}
+use Rattle.sets.specs.Whole.{rows}
+use Rattle.words.proofs.Made.{words-made}
 use Rattle.walk.proofs.Judged.{Judged, judged-more, judged-told}
+use borrow.Author.Needs.{needs}
 use Rattle.walk.proofs.open_orders.Statement.{statement}
 use Rattle.walk.proofs.open_orders.Tie as tie
 
 abbrev Inv-loop : tie.InvT-loop
-Inv-loop words orders open₀ i₀ i-end «open» i = (i ≤ i-end) × (length «open» ≡ most-orders) × ((j : ℕ) → j < i → Judged words orders «open» j)
+Inv-loop succ fits orders open₀ i₀ i-end «open» i = (i ≤ i-end) × (length «open» ≡ most-orders) × ((j : ℕ) → j < i → Judged (rows succ) (rows fits) orders «open» j)
 
 abbrev μ-loop : tie.MeasureT-loop
-μ-loop words orders open₀ i₀ i-end «open» i = i-end - i
+μ-loop succ fits orders open₀ i₀ i-end «open» i = i-end - i
 
-words-of-requires : tie.Need-words-of-requires Inv-loop μ-loop
-words-of-requires c κs = search needs
+succ-of-requires : tie.Need-succ-of-requires Inv-loop μ-loop
+succ-of-requires c κs = search needs
+
+fits-of-requires : tie.Need-fits-of-requires Inv-loop μ-loop
+fits-of-requires c κs = search needs
 
 loop-holds : tie.Need-loop-holds Inv-loop μ-loop
 loop-holds c = (search needs, refl, λ j h. absurd (omega (arith, h)))
@@ -36,8 +41,10 @@ cast-open-route-2 c = search needs
 
 open-route-requires : tie.Need-open-route-requires Inv-loop μ-loop
 open-route-requires c κs =
-    let s = c .before .before .before .before .before .before .before in
-    all-named (s .args .g) _ (nodes-few (s .args .g) (s .pre .0)) (s .pre .2) (c .before .before .before .before .loop .i) (c .before .before .before .loop-test .taken)
+    let n = c .before .before .before .before .before in
+    let s = n .before .before .before .before .before in
+    let ends = all-named (s .args .g) _ (nodes-few (s .args .g) (s .pre .0)) (s .pre .2) (n .before .loop .i) (n .loop-test .taken) in
+    (ends .0, ends .1, search needs)
 
 array-write-open : tie.Need-array-write-open Inv-loop μ-loop
 array-write-open c = search needs
@@ -48,21 +55,29 @@ add-i c = search needs
 loop-less : tie.Need-loop-less Inv-loop μ-loop
 loop-less c = search needs
 
+long : (c : tie.After-open-route Inv-loop μ-loop) → length (c .open-route .result .nodes) ≡ most-nodes
+long c = search needs
+
 loop-again : tie.Need-loop-again Inv-loop μ-loop
 loop-again c =
-    let s = c .before .before .before .before .before .before .before .before .before in
-    let l = c .before .before .before .before .before .before .loop in
-    let room : length (c .before .open-route .result .nodes) ≡ most-nodes = search needs in (
+    let o = c .before in
+    let n = o .before .before .before .before .before .before in
+    let l = n .before .loop in
+    let f = n .before .before .before in
+    let s = f .before .before in
+    let room : length (o .open-route .result .nodes) ≡ most-nodes = long o in (
       search needs,
       length-set (l .«open») (l .i) _ ∙ l .inv .1,
-      judged-more (c .before .before .before .before .before .before .before .before .words-of .result) (s .args .g .orders) (l .«open») (l .i) (c .before .open-route .result) (l .inv .2) (search needs) (omega (arith, c .before .open-route .ensures .0)) (c .before .open-route .ensures .1),
+      judged-more (rows (f .before .succ-of .result)) (rows (f .fits-of .result)) (s .args .g .orders) (l .«open») (l .i) (o .open-route .result) (l .inv .2) (search needs) (omega (arith, o .open-route .ensures .0)) (o .open-route .ensures .1),
     )
 
 returns : tie.Need-returns Inv-loop μ-loop
 returns c =
-    let s = c .before .before .before .before in
+    let f = c .before .before .before in
+    let s = f .before .before in
     let e : c .before .loop .i ≡ s .args .g .«order_count» = omega arith in
-    judged-told (s .args .g) (s .pre .0) (c .before .before .before .words-of .result) (c .before .loop .«open») (c .before .before .before .words-of .ensures)
+    judged-told (s .args .g) (s .pre .0) (rows (f .before .succ-of .result)) (rows (f .fits-of .result)) (c .before .loop .«open»)
+    (words-made (s .args .g) (s .pre .0) (s .pre .1) (rows (f .before .succ-of .result)) (rows (f .fits-of .result)) (f .before .succ-of .ensures) (f .fits-of .ensures))
     (λ j h. c .before .loop .inv .2 j (omega arith))
 
 pub open-orders-spec : {M : Type 1} → statement M
@@ -71,7 +86,8 @@ open-orders-spec =
     (tie.spec
     Inv-loop
     μ-loop
-    words-of-requires
+    succ-of-requires
+    fits-of-requires
     loop-holds
     mul-order
     array-copy-out-order

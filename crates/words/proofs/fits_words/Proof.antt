@@ -1,29 +1,34 @@
 -- `words::fits_words` meets its contract: node by node.
 use mathlib.Core.Bool.{Bool, _&&_}
-use mathlib.Core.Path.{_≡_, refl, ap, _∙_}
-use Prim.Native.Nat.{ℕ, _-_, _≤_}
+use mathlib.Core.List.{List}
+use mathlib.Core.Path.{_≡_, refl, ap, subst⁻¹, _∙_}
+use Prim.Native.Nat.{ℕ, _-_, _≤_, _<_}
 use native.Mathlib.Omega.{arith}
 use lib.Dec.{ltb}
-use lib.ListN.{length, take}
-use borrow.Author.Needs.{needs}
+use lib.ListN.{length, take, length-set}
 use Rattle.graph.specs.declared.Node.{Node}
 use Rattle.graph.specs.Fit.{ruledb}
 use Rattle.graph.specs.Limits.{most-nodes}
+use Rattle.sets.specs.Whole.{whole, rows}
+use Rattle.sets.proofs.Rows.{rows-set, rows-none, rows-length}
 use Rattle.words.specs.Words.{labelAt}
 use Rattle.graph.proofs.Counted.{getD-any}
-use Rattle.words.proofs.Fill.{Rows, rows-none, rows-set}
+use Rattle.words.proofs.Fill.{Rows, rows-start, row-filled}
+use borrow.Author.Needs.{needs}
 use Rattle.words.proofs.fits_words.Statement.{statement}
 use Rattle.words.proofs.fits_words.Tie as tie
 
 abbrev Inv-loop : tie.InvT-loop
-Inv-loop n rules m nodes words₀ i₀ words i =
-    (i ≤ n) × (length words ≡ most-nodes) × Rows (λ p q. ltb q n && ruledb (take m rules) (labelAt nodes p) (labelAt nodes q)) i words
+Inv-loop n rules m nodes rights words₀ p₀ words p = (p ≤ n) × (length words ≡ most-nodes) × Rows (λ p q. ltb q n && ruledb (take m rules) (labelAt nodes p) (labelAt nodes q)) p (rows words)
 
 abbrev μ-loop : tie.MeasureT-loop
-μ-loop n rules m nodes words₀ i₀ words i = n - i
+μ-loop n rules m nodes rights words₀ p₀ words p = n - p
+
+rights-of-requires : tie.Need-rights-of-requires Inv-loop μ-loop
+rights-of-requires c κs = search needs
 
 loop-holds : tie.Need-loop-holds Inv-loop μ-loop
-loop-holds c = (search needs, refl, rows-none _)
+loop-holds c = (search needs, refl, subst⁻¹ (Rows _ 0) (rows-none most-nodes) (rows-start _))
 
 mul-node : tie.Need-mul-node Inv-loop μ-loop
 mul-node c = search needs
@@ -31,14 +36,17 @@ mul-node c = search needs
 array-copy-out-node : tie.Need-array-copy-out-node Inv-loop μ-loop
 array-copy-out-node c = search needs
 
-fits-word-requires : tie.Need-fits-word-requires Inv-loop μ-loop
-fits-word-requires c κs = search needs
+beside-requires : tie.Need-beside-requires Inv-loop μ-loop
+beside-requires c κs = search needs
+
+row-of-requires : tie.Need-row-of-requires Inv-loop μ-loop
+row-of-requires c κs = search needs
 
 mul-words : tie.Need-mul-words Inv-loop μ-loop
 mul-words c = search needs
 
-array-write-words : tie.Need-array-write-words Inv-loop μ-loop
-array-write-words c = search needs
+array-set-from-words : tie.Need-array-set-from-words Inv-loop μ-loop
+array-set-from-words c = search needs
 
 add-p : tie.Need-add-p Inv-loop μ-loop
 add-p c = search needs
@@ -48,20 +56,25 @@ loop-less c = search needs
 
 loop-again : tie.Need-loop-again Inv-loop μ-loop
 loop-again c =
-    let s = c .before .before .before .before .args in
-    let p = c .before .before .before .loop .p in
-    let inv = c .before .before .before .loop .inv in
-    let ws = c .before .before .before .loop .words in
-    let G : ℕ → ℕ → Bool = λ p q. ltb q (s .n) && ruledb (take (s .m) (s .rules)) (labelAt (s .t1) p) (labelAt (s .t1) q) in (
+    let be = c .before .before in
+    let n = be .before .before in
+    let r = n .before .before in
+    let s = r .before .args in
+    let p = n .before .loop .p in
+    let inv = n .before .loop .inv in
+    let ws = n .before .loop .words in
+    let G : ℕ → ℕ → Bool = λ p q. ltb q (s .n) && ruledb (take (s .m) (s .rules)) (labelAt (s .t1) p) (labelAt (s .t1) q) in
+    let room : p < length (rows ws) = rw (rows-length ws) (search needs) in (
       search needs,
-      search needs,
-      rows-set G p (c .fits-word .result) ws (inv .2) (search needs)
-          (λ q. c .fits-word .ensures q ∙ ap (λ (x : Node). ltb q (s .n) && ruledb (take (s .m) (s .rules)) (x .label) (labelAt (s .t1) q)) (getD-any (s .t1) p _ _ (search needs))),
+      length-set ws p (c .row-of .result) ∙ inv .1,
+      subst⁻¹ (Rows G _) (rows-set ws p (c .row-of .result)) (row-filled G p (whole (c .row-of .result)) (rows ws) (inv .2) room
+          (λ q. c .row-of .ensures q (ltb q (s .n)) (labelAt (s .t1) q) (λ j h. r .rights-of .ensures j q h) (be .beside .ensures q)
+          ∙ ap (λ (x : Node). ltb q (s .n) && ruledb (take (s .m) (s .rules)) (x .label) (labelAt (s .t1) q)) (getD-any (s .t1) p _ _ (search needs)))),
     )
 
 returns : tie.Need-returns Inv-loop μ-loop
 returns c =
-    let e : c .before .loop .p ≡ c .before .before .args .n = omega arith in
+    let e : c .before .loop .p ≡ c .before .before .before .args .n = omega arith in
     λ p q. rw e at (c .before .loop .inv .2 p q)
 
 pub fits-words-spec : {M : Type 1} → statement M
@@ -70,12 +83,14 @@ fits-words-spec =
     (tie.spec
     Inv-loop
     μ-loop
+    rights-of-requires
     loop-holds
     mul-node
     array-copy-out-node
-    fits-word-requires
+    beside-requires
+    row-of-requires
     mul-words
-    array-write-words
+    array-set-from-words
     add-p
     loop-less
     loop-again

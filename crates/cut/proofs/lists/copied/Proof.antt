@@ -58,6 +58,12 @@ returns c = let l = c .before in
     let z : l .loop .e ≡ l .before .args .n = omega (arith, l .loop .inv .0, c .loop-test .left) in
     (search needs, rw z at (l .loop .inv .1))
 
+mul-l-2 : tie.Need-mul-l-2 Inv-loop μ-loop
+mul-l-2 c = search needs
+
+mul-l-3 : tie.Need-mul-l-3 Inv-loop μ-loop
+mul-l-3 c = search needs
+
 pub copied-spec : {M : Type 1} → statement M
 copied-spec =
     tie.close
@@ -68,10 +74,12 @@ copied-spec =
     mul-x
     array-copy-out-x
     narrow-requires
+    mul-l
     element-write-l
     narrow-requires-2
+    mul-l-2
     element-write-l-2
-    mul-l
+    mul-l-3
     element-write-l-3
     add-e
     loop-less

@@ -1,5 +1,7 @@
 -- `fence::asking::ask` meets its contract: one case for each answer, and the walk's outcome where none is refused.
 use native.Mathlib.Omega.{arith}
+use Rattle.sets.specs.Whole.{rows}
+use Rattle.words.proofs.Made.{words-made}
 use Rattle.fence.proofs.Shows.{unknown-order, few-entries, order-nodes, route-shown}
 use borrow.Author.Needs.{needs}
 use Rattle.fence.proofs.asking.ask.Statement.{statement}
@@ -24,8 +26,11 @@ returns-2 c =
     let s = e .before .before in
     few-entries (s .args .t1) (s .pre) (s .args .order) _ (omega (arith, e .if1 .left)) (t .if2 .taken) _ (c .unshown2 .ensures)
 
-words-of-requires : tie.Need-words-of-requires
-words-of-requires c κs = search needs
+succ-of-requires : tie.Need-succ-of-requires
+succ-of-requires c κs = search needs
+
+fits-of-requires : tie.Need-fits-of-requires
+fits-of-requires c κs = search needs
 
 mul-o : tie.Need-mul-o
 mul-o c = search needs
@@ -41,9 +46,11 @@ cast-open-route-2 c = search needs
 
 open-route-requires : tie.Need-open-route-requires
 open-route-requires c κs =
-    let e = c .before .before .before .before .before in
+    let o = c .before .before .before .before in
+    let e = o .before .before .before .before in
     let s = e .before .before in
-    order-nodes (s .args .t1) (s .pre) (s .args .order) (s .args .route .now) (omega (arith, e .if1 .left))
+    let ends = order-nodes (s .args .t1) (s .pre) (s .args .order) (s .args .route .now) (omega (arith, e .if1 .left)) in
+    (ends .0, ends .1, search needs)
 
 put-route-requires : tie.Need-put-route-requires
 put-route-requires c κs = search needs
@@ -55,11 +62,13 @@ returns-3 : tie.Need-returns-3
 returns-3 c =
     let p = c .before .before in
     let w = p .before .before .before in
-    let o = w .before .before .before .before in
-    let e2 = o .before in
+    let f = w .before .before .before .before .before .before in
+    let u = f .before in
+    let e2 = u .before in
     let e1 = e2 .before in
     let s = e1 .before .before in
-    route-shown (s .args .t1) (s .pre) (s .args .order) _ (omega (arith, e1 .if1 .left)) (omega (arith, e2 .if2 .left)) _ (o .words-of .ensures) _ (w .open-route .ensures .1) _ _ _
+    route-shown (s .args .t1) (s .pre) (s .args .order) _ (omega (arith, e1 .if1 .left)) (omega (arith, e2 .if2 .left)) (rows (u .succ-of .result)) (rows (f .fits-of .result))
+    (words-made (s .args .t1) (s .pre .sized) (s .pre .proper .sound) (rows (u .succ-of .result)) (rows (f .fits-of .result)) (u .succ-of .ensures) (f .fits-of .ensures)) _ (w .open-route .ensures .1) _ _ _
     (p .put-route .ensures .0 .0) (p .put-route .ensures .0 .1) (p .put-route .ensures .1)
 
 pub ask-spec : {M : Type 1} → statement M
@@ -70,7 +79,8 @@ ask-spec =
     returns
     unshown-requires-2
     returns-2
-    words-of-requires
+    succ-of-requires
+    fits-of-requires
     mul-o
     element-copy-out-o
     cast-open-route

@@ -14,10 +14,10 @@ use Rattle.fencing.proofs.on.count.Statement.{statement}
 use Rattle.fencing.proofs.on.count.Tie as tie
 
 abbrev Inv-loop : tie.InvT-loop
-Inv-loop flags n₀ i₀ n i = (i ≤ 192) × (n ≤ i) × (n + length (rising i (drop i flags)) ≡ length (rising 0 flags))
+Inv-loop flags n₀ i₀ n i = (i ≤ 1024) × (n ≤ i) × (n + length (rising i (drop i flags)) ≡ length (rising 0 flags))
 
 abbrev μ-loop : tie.MeasureT-loop
-μ-loop flags n₀ i₀ n i = 192 - i
+μ-loop flags n₀ i₀ n i = 1024 - i
 
 loop-holds : tie.Need-loop-holds Inv-loop μ-loop
 loop-holds c = search needs

@@ -142,6 +142,12 @@ returns-2 c = let l = c .before .before in
     let ms = st .pre .1 .0 in
     filled-end _ _ _ _ _ _ (st .pre .0) (st .args .s) ms _ _ _ _ (l .loop .inv .3 (st .args .s) ms (l .before .before .unspent .ensures .1)) (c .before .loop-test .left)
 
+mul-wide : tie.Need-mul-wide Inv-loop μ-loop
+mul-wide c = search needs
+
+mul-wide-2 : tie.Need-mul-wide-2 Inv-loop μ-loop
+mul-wide-2 c = search needs
+
 pub bound-spec : {M : Type 1} → statement M
 bound-spec =
     tie.close
@@ -151,8 +157,10 @@ bound-spec =
     unspent-requires
     no-route-requires
     loop-holds
+    mul-wide
     shared-slice-read-wide
     wide-requires
+    mul-wide-2
     shared-slice-read-wide-2
     wide-requires-2
     find-route-requires

@@ -14,5 +14,8 @@ wide-requires c κs = search needs
 returns : tie.Need-returns
 returns c = let st = c .before .before in (search needs, omega (arith, c .wide .ensures .0, st .pre .1 .below (st .args .i) (st .pre .0)))
 
+mul-wide : tie.Need-mul-wide
+mul-wide c = search needs
+
 pub edge-at-spec : {M : Type 1} → statement M
-edge-at-spec = tie.close (tie.spec element-copy-out-wide wide-requires returns)
+edge-at-spec = tie.close (tie.spec mul-wide element-copy-out-wide wide-requires returns)

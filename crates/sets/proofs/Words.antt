@@ -1,0 +1,191 @@
+-- The words of a set, over any number of words: its flags, its count, a number put in, and two sets word by word.
+-- Assumes nothing.
+use mathlib.Core.Bool.{true, false}
+use mathlib.Core.List.{List, [], _∷_}
+use mathlib.Core.Path.{_≡_, refl, sym, ap, ap₂, _∙_, subst}
+use Prim.Native.Nat.{ℕ, zero, suc, _+_, _-_, _*_, _/_, _%_, _^_, _<_, _≤_}
+use native.Mathlib.Decide.{ℕ-discrete}
+use native.Mathlib.Nat.{one-mul, mul-comm, add-zero, zero-lt-suc}
+use native.Mathlib.Numerals.{add-one}
+use native.Mathlib.Omega.{arith}
+use lib.Arith.{digits-lt}
+use lib.Bits.{bitOr, bitAnd, bitXor, or-block, and-block, xor-block, and-lt, or-zero-r}
+use lib.Count.{ones, ones-cat, ones-le}
+use lib.Dec.{eqb}
+use lib.ListN.{length, getD, set, length-set}
+use lib.Pow.{pow-pos, pow-lt, pow-add, high, low, field, mod-mod-pow, shr-shr}
+use lib.Seq.{getD-set-same, getD-set-other}
+use Rattle.flags.specs.Flag.{digit, flag, put, either, both, less}
+use Rattle.flags.proofs.Digit.{flag-zero}
+use Rattle.flags.proofs.Put.{put-lt, put-count}
+use Rattle.sets.specs.Whole.{whole, counted, most}
+
+-- each word has 64 digits
+abbrev pub Small : List ℕ → Type 0
+Small ws = (i : ℕ) → getD ws i 0 < 2 ^ 64
+
+-- ---- the digits of a long word: those of its lowest word, then those of the rest
+
+digit-low : (a r k : ℕ) → r < 2 ^ 64 → k < 64 → digit (a * 2 ^ 64 + r) k ≡ digit r k
+unfolding digit
+digit-low a r k h l =
+    let n = a * 2 ^ 64 + r in
+    let e : (63 - k) + (1 + k) ≡ 64 = omega arith in
+    let m : n % 2 ^ (1 + k) ≡ r % 2 ^ (1 + k) =
+    sym (mod-mod-pow n (63 - k) (1 + k)) ∙ ap (λ (x : ℕ). x % 2 ^ (1 + k)) (ap (λ (x : ℕ). n % 2 ^ x) e ∙ low a 64 h) in
+    sym (field n 1 k) ∙ ap (λ (x : ℕ). x / 2 ^ k) m ∙ field r 1 k
+
+digit-high : (a r k : ℕ) → r < 2 ^ 64 → digit (a * 2 ^ 64 + r) (64 + k) ≡ digit a k
+unfolding digit
+digit-high a r k h = ap (λ (x : ℕ). x % 2) (sym (shr-shr (a * 2 ^ 64 + r) 64 k) ∙ ap (λ (x : ℕ). x / 2 ^ k) (high a 64 h))
+
+flag-low : (a r k : ℕ) → r < 2 ^ 64 → k < 64 → flag (a * 2 ^ 64 + r) k ≡ flag r k
+unfolding flag
+flag-low a r k h l = ap (λ (x : ℕ). eqb x 1) (digit-low a r k h l)
+
+flag-high : (a r k : ℕ) → r < 2 ^ 64 → flag (a * 2 ^ 64 + r) (64 + k) ≡ flag a k
+unfolding flag
+flag-high a r k h = ap (λ (x : ℕ). eqb x 1) (digit-high a r k h)
+
+pub whole-flag : (ws : List ℕ) (i j : ℕ) → Small ws → j < 64 → flag (whole ws) (i * 64 + j) ≡ flag (getD ws i 0) j
+unfolding whole
+whole-flag [] i j s h = flag-zero (i * 64 + j) ∙ sym (flag-zero j)
+whole-flag (w ∷ ws) zero j s h =
+    let e : 0 * 64 + j ≡ j = omega arith in
+    ap (flag (whole ws * 2 ^ 64 + w)) e ∙ flag-low (whole ws) w j (s 0) h
+whole-flag (w ∷ ws) (suc i) j s h =
+    let e : suc i * 64 + j ≡ 64 + (i * 64 + j) = omega arith in
+    ap (flag (whole ws * 2 ^ 64 + w)) e ∙ flag-high (whole ws) w (i * 64 + j) (s 0) ∙ whole-flag ws i j (λ k. s (suc k)) h
+
+-- flag k stands in word k / 64
+pub whole-at : (ws : List ℕ) (k : ℕ) → Small ws → flag (whole ws) k ≡ flag (getD ws (k / 64) 0) (k % 64)
+whole-at ws k s =
+    let e : k ≡ k / 64 * 64 + k % 64 = omega arith in
+    ap (flag (whole ws)) e ∙ whole-flag ws (k / 64) (k % 64) s (omega arith)
+
+-- ---- the count: the sum over the words
+
+counted-shift : (w : ℕ) (ws : List ℕ) (i : ℕ) → counted (w ∷ ws) (suc i) ≡ ones w + counted ws i
+counted-shift w ws zero = omega arith
+counted-shift w ws (suc i) = let e = counted-shift w ws i in omega (arith, e)
+
+pub counted-more : (ws : List ℕ) (i : ℕ) → counted ws (i + 1) ≡ counted ws i + ones (getD ws i 0)
+counted-more ws i = ap (counted ws) (add-one i)
+
+pub whole-ones : (ws : List ℕ) → Small ws → ones (whole ws) ≡ counted ws (length ws)
+unfolding whole ones
+whole-ones [] s = refl
+whole-ones (w ∷ ws) s =
+    let e : ones (whole ws * 2 ^ 64 + w) ≡ ones (whole ws) + ones w = ones-cat 64 (whole ws) w (s 0) in
+    let f : ones (whole ws) ≡ counted ws (length ws) = whole-ones ws (λ k. s (suc k)) in
+    let g : counted (w ∷ ws) (suc (length ws)) ≡ ones w + counted ws (length ws) = counted-shift w ws (length ws) in
+    e ∙ omega (arith, f, g)
+
+counted-le : (ws : List ℕ) (n : ℕ) → Small ws → counted ws n ≤ n * 64
+counted-le ws zero s = omega arith
+counted-le ws (suc n) s = omega (arith, counted-le ws n s, ones-le 64 (getD ws n 0) (s n))
+
+pub ones-most : (ws : List ℕ) (n : ℕ) → length ws ≡ n → Small ws → ones (whole ws) ≤ n * 64
+ones-most ws n e s = omega (arith, whole-ones ws s, counted-le ws (length ws) s, e)
+
+-- ---- a number put in
+
+put-low : (a w j : ℕ) → w < 2 ^ 64 → j < 64 → a * 2 ^ 64 + put w j ≡ put (a * 2 ^ 64 + w) j
+unfolding put
+put-low a w j h l =
+    let one : 1 * 2 ^ j < 2 ^ 64 = subst (λ (x : ℕ). x < 2 ^ 64) (sym (one-mul (2 ^ j))) (pow-lt l) in
+    let z : 1 * 2 ^ j ≡ 0 * 2 ^ 64 + 1 * 2 ^ j = omega arith in
+    sym (ap (bitOr (a * 2 ^ 64 + w)) z ∙ or-block 64 a 0 w (1 * 2 ^ j) h one ∙ ap (λ (x : ℕ). x * 2 ^ 64 + bitOr w (1 * 2 ^ j)) (or-zero-r a))
+
+put-high : (a w k : ℕ) → w < 2 ^ 64 → put a k * 2 ^ 64 + w ≡ put (a * 2 ^ 64 + w) (64 + k)
+unfolding put
+put-high a w k h =
+    let e : 1 * 2 ^ k * 2 ^ 64 + 0 ≡ 1 * 2 ^ (64 + k) =
+    add-zero (1 * 2 ^ k * 2 ^ 64) ∙ ap (λ (x : ℕ). x * 2 ^ 64) (one-mul (2 ^ k)) ∙ mul-comm (2 ^ k) (2 ^ 64) ∙ sym (pow-add 2 64 k) ∙ sym (one-mul (2 ^ (64 + k))) in
+    sym (ap (bitOr (a * 2 ^ 64 + w)) (sym e) ∙ or-block 64 a (1 * 2 ^ k) w 0 h (pow-pos 64) ∙ ap (λ (x : ℕ). bitOr a (1 * 2 ^ k) * 2 ^ 64 + x) (or-zero-r w))
+
+pub whole-put : (ws : List ℕ) (i j : ℕ) → Small ws → i < length ws → j < 64 → whole (set ws i (put (getD ws i 0) j)) ≡ put (whole ws) (i * 64 + j)
+unfolding whole
+whole-put [] i j s h l = absurd (omega (arith, h))
+whole-put (w ∷ ws) zero j s h l =
+    let e : j ≡ 0 * 64 + j = omega arith in
+    put-low (whole ws) w j (s 0) l ∙ ap (put (whole ws * 2 ^ 64 + w)) e
+whole-put (w ∷ ws) (suc i) j s h l =
+    let e : 64 + (i * 64 + j) ≡ suc i * 64 + j = omega arith in
+    ap (λ (x : ℕ). x * 2 ^ 64 + w) (whole-put ws i j (λ k. s (suc k)) (omega (arith, h)) l) ∙ put-high (whole ws) w (i * 64 + j) (s 0) ∙ ap (put (whole ws * 2 ^ 64 + w)) e
+
+pub small-put : (ws : List ℕ) (i j : ℕ) → Small ws → i < length ws → j < 64 → Small (set ws i (put (getD ws i 0) j))
+small-put ws i j s h l k = go (ℕ-discrete k i)
+  where
+    go : Dec (k ≡ i) → getD (set ws i (put (getD ws i 0) j)) k 0 < 2 ^ 64
+    go (yes p) = rw (p, getD-set-same ws i (put (getD ws i 0) j) 0 h) (put-lt (getD ws i 0) j (s i) l)
+    go (no n) = rw (getD-set-other ws i k (put (getD ws i 0) j) 0 n) (s k)
+
+-- where a number is not in, there is room for it
+pub room : (ws : List ℕ) (k : ℕ) → length ws ≡ 8 → Small ws → k < most → flag (whole ws) k ≡ false → ones (whole ws) < most
+room ws k len s h e =
+    let i = k / 64 in
+    let j = k % 64 in
+    let at : i < length ws = omega (arith, len, h) in
+    let low′ : j < 64 = omega arith in
+    let is : i * 64 + j ≡ k = omega arith in
+    let more = set ws i (put (getD ws i 0) j) in
+    let few : ones (whole more) ≤ 8 * 64 = ones-most more 8 (length-set ws i (put (getD ws i 0) j) ∙ len) (small-put ws i j s at low′) in
+    let up : ones (whole more) ≡ ones (whole ws) + 1 = ap ones (whole-put ws i j s at low′ ∙ ap (put (whole ws)) is) ∙ put-count (whole ws) k e in
+    omega (arith, few, up)
+
+-- ---- two sets, word by word: what is done to the words is done to the sets
+
+module _ (op : ℕ → ℕ → ℕ) where
+  -- the first i words of r are made from those of a and b
+  abbrev pub Made : List ℕ → List ℕ → ℕ → List ℕ → Type 0
+  Made a b i r = (j : ℕ) → j < i → getD r j 0 ≡ op (getD a j 0) (getD b j 0)
+
+  pub made-none : (a b r : List ℕ) → Made a b 0 r
+  made-none a b r j h = absurd (omega (arith, h))
+
+  pub made-more : (a b r : List ℕ) (i w : ℕ) → i < length r → w ≡ op (getD a i 0) (getD b i 0) → Made a b i r → Made a b (i + 1) (set r i w)
+  made-more a b r i w h e m j l = go (ℕ-discrete j i)
+    where
+      go : Dec (j ≡ i) → getD (set r i w) j 0 ≡ op (getD a j 0) (getD b j 0)
+      go (yes p) = rw p (getD-set-same r i w 0 h ∙ e)
+      go (no n) = getD-set-other r i j w 0 n ∙ m j (omega arith)
+
+  module _ (nothing : op 0 0 ≡ 0) (block : (a b r s : ℕ) → r < 2 ^ 64 → s < 2 ^ 64 → op (a * 2 ^ 64 + r) (b * 2 ^ 64 + s) ≡ op a b * 2 ^ 64 + op r s) where
+    pub whole-op : (a b r : List ℕ) (n : ℕ) → length a ≡ n → length b ≡ n → length r ≡ n → Small a → Small b → Made a b n r → whole r ≡ op (whole a) (whole b)
+    unfolding whole
+    whole-op [] [] [] n p q l s t m = sym nothing
+    whole-op [] [] (z ∷ r) n p q l s t m = absurd (omega (arith, p, l))
+    whole-op [] (y ∷ b) r n p q l s t m = absurd (omega (arith, p, q))
+    whole-op (x ∷ a) [] r n p q l s t m = absurd (omega (arith, p, q))
+    whole-op (x ∷ a) (y ∷ b) [] n p q l s t m = absurd (omega (arith, p, l))
+    whole-op (x ∷ a) (y ∷ b) (z ∷ r) zero p q l s t m = absurd (omega (arith, p))
+    whole-op (x ∷ a) (y ∷ b) (z ∷ r) (suc n) p q l s t m =
+        ap₂ (λ (u v : ℕ). u * 2 ^ 64 + v)
+        (whole-op a b r n (omega (arith, p)) (omega (arith, q)) (omega (arith, l)) (λ k. s (suc k)) (λ k. t (suc k)) (λ j h. m (suc j) (omega (arith, h))))
+        (m 0 (zero-lt-suc n))
+        ∙ sym (block (whole a) (whole b) x y (s 0) (t 0))
+
+pub either-block : (a b r s : ℕ) → r < 2 ^ 64 → s < 2 ^ 64 → either (a * 2 ^ 64 + r) (b * 2 ^ 64 + s) ≡ either a b * 2 ^ 64 + either r s
+unfolding either
+either-block a b r s p q = or-block 64 a b r s p q
+
+pub both-block : (a b r s : ℕ) → r < 2 ^ 64 → s < 2 ^ 64 → both (a * 2 ^ 64 + r) (b * 2 ^ 64 + s) ≡ both a b * 2 ^ 64 + both r s
+unfolding both
+both-block a b r s p q = and-block 64 a b r s p q
+
+pub less-block : (a b r s : ℕ) → r < 2 ^ 64 → s < 2 ^ 64 → less (a * 2 ^ 64 + r) (b * 2 ^ 64 + s) ≡ less a b * 2 ^ 64 + less r s
+unfolding less
+less-block a b r s p q = ap (bitXor (a * 2 ^ 64 + r)) (and-block 64 a b r s p q) ∙ xor-block 64 a (bitAnd a b) r (bitAnd r s) p (and-lt 64 r s p q)
+
+pub either-none : either 0 0 ≡ 0
+unfolding either
+either-none = refl
+
+pub both-none : both 0 0 ≡ 0
+unfolding both
+both-none = refl
+
+pub less-none : less 0 0 ≡ 0
+unfolding less
+less-none = refl

@@ -1,0 +1,84 @@
+-- `sets::both` meets its contract: word by word.
+use mathlib.Core.Path.{_≡_, refl, _∙_}
+use Prim.Native.Nat.{_-_, _≤_, _<_}
+use native.Mathlib.Omega.{arith}
+use lib.ListN.{length, getD, replicate, length-set}
+use mir.Val.{Fits}
+use mir.Syntax.{w64}
+use borrow.Author.Needs.{needs}
+use Rattle.flags.specs.Flag.{both}
+use Rattle.sets.proofs.Words.{Small, Made, made-none, made-more, whole-op, both-none, both-block}
+use Rattle.sets.proofs.both.Statement.{statement}
+use Rattle.sets.proofs.both.Tie as tie
+
+abbrev Inv-loop : tie.InvT-loop
+Inv-loop a b r₀ i₀ r i = (i ≤ 8) × (length r ≡ 8) × Made both a b i r
+
+abbrev μ-loop : tie.MeasureT-loop
+μ-loop a b r₀ i₀ r i = 8 - i
+
+loop-holds : tie.Need-loop-holds Inv-loop μ-loop
+loop-holds c = (search needs, refl, made-none both (c .args .t1) (c .args .t2) (replicate 8 0))
+
+mul-both : tie.Need-mul-both Inv-loop μ-loop
+mul-both c = search needs
+
+array-read-both : tie.Need-array-read-both Inv-loop μ-loop
+array-read-both c = search needs
+
+mul-both-2 : tie.Need-mul-both-2 Inv-loop μ-loop
+mul-both-2 c = search needs
+
+array-read-both-2 : tie.Need-array-read-both-2 Inv-loop μ-loop
+array-read-both-2 c = search needs
+
+both-requires : tie.Need-both-requires Inv-loop μ-loop
+both-requires c κs = search needs
+
+mul-r : tie.Need-mul-r Inv-loop μ-loop
+mul-r c = search needs
+
+array-write-r : tie.Need-array-write-r Inv-loop μ-loop
+array-write-r c = search needs
+
+add-i : tie.Need-add-i Inv-loop μ-loop
+add-i c = search needs
+
+loop-less : tie.Need-loop-less Inv-loop μ-loop
+loop-less c = search needs
+
+loop-again : tie.Need-loop-again Inv-loop μ-loop
+loop-again c =
+    let s = c .before .before .before .args in
+    let l = c .before .before .loop in
+    let room : l .i < length (l .r) = omega (arith, l .inv .1, c .before .loop-test .taken) in
+    (search needs, length-set (l .r) (l .i) (c .both .result) ∙ l .inv .1, made-more both (s .t1) (s .t2) (l .r) (l .i) (c .both .result) room (c .both .ensures) (l .inv .2))
+
+returns : tie.Need-returns Inv-loop μ-loop
+returns c =
+    let a = c .before .before .args .t1 in
+    let b = c .before .before .args .t2 in
+    let l = c .before .loop in
+    let smallA : Small a = λ i. let f : Fits w64 (getD a i 0) = search needs in f .fits in
+    let smallB : Small b = λ i. let f : Fits w64 (getD b i 0) = search needs in f .fits in
+    let end : l .i ≡ 8 = omega (arith, l .inv .0, c .loop-test .left) in
+    whole-op both both-none both-block a b (l .r) 8 (search needs) (search needs) (l .inv .1) smallA smallB (rw end at (l .inv .2))
+
+pub both-spec : {M : Type 1} → statement M
+both-spec =
+    tie.close
+    (tie.spec
+    Inv-loop
+    μ-loop
+    loop-holds
+    mul-both
+    array-read-both
+    mul-both-2
+    array-read-both-2
+    both-requires
+    mul-r
+    array-write-r
+    add-i
+    loop-less
+    loop-again
+    returns)

@@ -1,0 +1,84 @@
+-- `sets::either` meets its contract: word by word.
+use mathlib.Core.Path.{_≡_, refl, _∙_}
+use Prim.Native.Nat.{_-_, _≤_, _<_}
+use native.Mathlib.Omega.{arith}
+use lib.ListN.{length, getD, replicate, length-set}
+use mir.Val.{Fits}
+use mir.Syntax.{w64}
+use borrow.Author.Needs.{needs}
+use Rattle.flags.specs.Flag.{either}
+use Rattle.sets.proofs.Words.{Small, Made, made-none, made-more, whole-op, either-none, either-block}
+use Rattle.sets.proofs.either.Statement.{statement}
+use Rattle.sets.proofs.either.Tie as tie
+
+abbrev Inv-loop : tie.InvT-loop
+Inv-loop a b r₀ i₀ r i = (i ≤ 8) × (length r ≡ 8) × Made either a b i r
+
+abbrev μ-loop : tie.MeasureT-loop
+μ-loop a b r₀ i₀ r i = 8 - i
+
+loop-holds : tie.Need-loop-holds Inv-loop μ-loop
+loop-holds c = (search needs, refl, made-none either (c .args .t1) (c .args .t2) (replicate 8 0))
+
+mul-either : tie.Need-mul-either Inv-loop μ-loop
+mul-either c = search needs
+
+array-read-either : tie.Need-array-read-either Inv-loop μ-loop
+array-read-either c = search needs
+
+mul-either-2 : tie.Need-mul-either-2 Inv-loop μ-loop
+mul-either-2 c = search needs
+
+array-read-either-2 : tie.Need-array-read-either-2 Inv-loop μ-loop
+array-read-either-2 c = search needs
+
+either-requires : tie.Need-either-requires Inv-loop μ-loop
+either-requires c κs = search needs
+
+mul-r : tie.Need-mul-r Inv-loop μ-loop
+mul-r c = search needs
+
+array-write-r : tie.Need-array-write-r Inv-loop μ-loop
+array-write-r c = search needs
+
+add-i : tie.Need-add-i Inv-loop μ-loop
+add-i c = search needs
+
+loop-less : tie.Need-loop-less Inv-loop μ-loop
+loop-less c = search needs
+
+loop-again : tie.Need-loop-again Inv-loop μ-loop
+loop-again c =
+    let s = c .before .before .before .args in
+    let l = c .before .before .loop in
+    let room : l .i < length (l .r) = omega (arith, l .inv .1, c .before .loop-test .taken) in
+    (search needs, length-set (l .r) (l .i) (c .either .result) ∙ l .inv .1, made-more either (s .t1) (s .t2) (l .r) (l .i) (c .either .result) room (c .either .ensures) (l .inv .2))
+
+returns : tie.Need-returns Inv-loop μ-loop
+returns c =
+    let a = c .before .before .args .t1 in
+    let b = c .before .before .args .t2 in
+    let l = c .before .loop in
+    let smallA : Small a = λ i. let f : Fits w64 (getD a i 0) = search needs in f .fits in
+    let smallB : Small b = λ i. let f : Fits w64 (getD b i 0) = search needs in f .fits in
+    let end : l .i ≡ 8 = omega (arith, l .inv .0, c .loop-test .left) in
+    whole-op either either-none either-block a b (l .r) 8 (search needs) (search needs) (l .inv .1) smallA smallB (rw end at (l .inv .2))
+
+pub either-spec : {M : Type 1} → statement M
+either-spec =
+    tie.close
+    (tie.spec
+    Inv-loop
+    μ-loop
+    loop-holds
+    mul-either
+    array-read-either
+    mul-either-2
+    array-read-either-2
+    either-requires
+    mul-r
+    array-write-r
+    add-i
+    loop-less
+    loop-again
+    returns)

@@ -1,0 +1,94 @@
+// A set of numbers below 512, as eight words: number k is in it where flag k % 64 of word k / 64 is set.
+ghost use mathlib.Core.Path.{_≡_};
+ghost use Prim.Native.Nat.{_<_, _≤_};
+ghost use lib.Count.{ones};
+ghost use lib.Dec.{eqb};
+ghost use Rattle.flags.specs.Flag.{flag, put, either, both, less};
+ghost use Rattle.sets.specs.Whole.{whole, most, Leads};
+
+// How many words a set has.
+pub const WORDS: usize = 8;
+
+pub type Set = [u64; WORDS];
+
+// The set that has no number.
+pub fn none() -> Set
+    ensures { λ r. ⌜ whole r ≡ 0 ⌝ }
+{
+    [0u64; WORDS]
+}
+
+// Whether k is in the set s.
+pub fn has(s: Set, k: usize) -> bool
+    requires { ⌜ k < most ⌝ }
+    ensures { λ r. ⌜ r ≡ flag (whole s) k ⌝ }
+{
+    flags::has(s[k / 64], k % 64)
+}
+
+// The set s with k put in.
+pub fn with(s: Set, k: usize) -> Set
+    requires { ⌜ k < most ⌝ }
+    ensures { λ r. ⌜ (whole r ≡ put (whole s) k) × (ones (whole r) ≤ most) ⌝ }
+{
+    let mut more = s;
+    more[k / 64] = flags::with(s[k / 64], k % 64);
+    more
+}
+
+// How many numbers are in the set s: the sum over its words.
+pub fn size(s: Set) -> usize
+    ensures { λ r. ⌜ (r ≡ ones (whole s)) × (r ≤ most) ⌝ }
+{
+    let mut n = 0;
+    for i in 0..WORDS {
+        n += flags::size(s[i]);
+    }
+    n
+}
+
+// The numbers that are in a or in b.
+pub fn either(a: Set, b: Set) -> Set
+    ensures { λ r. ⌜ whole r ≡ either (whole a) (whole b) ⌝ }
+{
+    let mut r = [0u64; WORDS];
+    for i in 0..WORDS {
+        r[i] = flags::either(a[i], b[i]);
+    }
+    r
+}
+
+// The numbers that are in both.
+pub fn both(a: Set, b: Set) -> Set
+    ensures { λ r. ⌜ whole r ≡ both (whole a) (whole b) ⌝ }
+{
+    let mut r = [0u64; WORDS];
+    for i in 0..WORDS {
+        r[i] = flags::both(a[i], b[i]);
+    }
+    r
+}
+
+// The numbers that are in a and not in b.
+pub fn without(a: Set, b: Set) -> Set
+    ensures { λ r. ⌜ whole r ≡ less (whole a) (whole b) ⌝ }
+{
+    let mut r = [0u64; WORDS];
+    for i in 0..WORDS {
+        r[i] = flags::without(a[i], b[i]);
+    }
+    r
+}
+
+// The lowest number that is in a and not in b, and 512 where there is none.
+pub fn lowest(a: Set, b: Set) -> usize
+    ensures { λ r. ⌜ Leads (whole a) (whole b) r ⌝ }
+{
+    for i in 0..WORDS {
+        let left = flags::without(a[i], b[i]);
+        if left != 0 {
+            return i * 64 + flags::lowest(left);
+        }
+    }
+    WORDS * 64
+}

@@ -1,0 +1,86 @@
+-- `words::rights_of` meets its contract: rule by rule.
+use mathlib.Core.Bool.{_&&_}
+use mathlib.Core.List.{List}
+use mathlib.Core.Path.{_≡_, refl, ap, subst⁻¹, _∙_}
+use Prim.Native.Nat.{ℕ, _-_, _≤_, _<_}
+use native.Mathlib.Omega.{arith}
+use lib.Dec.{ltb}
+use lib.ListN.{length, replicate, length-set}
+use Rattle.graph.specs.declared.Rule.{Rule}
+use Rattle.graph.specs.Fit.{wantOf}
+use Rattle.graph.specs.Limits.{most-rules}
+use Rattle.graph.proofs.Counted.{getD-any}
+use Rattle.sets.specs.Whole.{whole, rows}
+use Rattle.sets.proofs.Rows.{rows-set, rows-length}
+use Rattle.words.specs.Words.{labelAt}
+use Rattle.words.specs.Rows.{matchb, no-rule, Rights}
+use Rattle.words.proofs.Parts.{rights-none, rights-more}
+use borrow.Author.Needs.{needs}
+use Rattle.words.proofs.rights_of.Statement.{statement}
+use Rattle.words.proofs.rights_of.Tie as tie
+
+abbrev Inv-loop : tie.InvT-loop
+Inv-loop nodes n m rules rights₀ i₀ rights i = (i ≤ m) × (length rights ≡ most-rules) × Rights nodes n rules i (rows rights)
+
+abbrev μ-loop : tie.MeasureT-loop
+μ-loop nodes n m rules rights₀ i₀ rights i = m - i
+
+loop-holds : tie.Need-loop-holds Inv-loop μ-loop
+loop-holds c = (search needs, refl, rights-none (c .args .nodes) (c .args .n) (c .args .t3) (rows (replicate most-rules (replicate 8 0))))
+
+mul-rule : tie.Need-mul-rule Inv-loop μ-loop
+mul-rule c = search needs
+
+array-copy-out-rule : tie.Need-array-copy-out-rule Inv-loop μ-loop
+array-copy-out-rule c = search needs
+
+matched-requires : tie.Need-matched-requires Inv-loop μ-loop
+matched-requires c κs = search needs
+
+mul-rights : tie.Need-mul-rights Inv-loop μ-loop
+mul-rights c = search needs
+
+array-set-from-rights : tie.Need-array-set-from-rights Inv-loop μ-loop
+array-set-from-rights c = search needs
+
+add-i : tie.Need-add-i Inv-loop μ-loop
+add-i c = search needs
+
+loop-less : tie.Need-loop-less Inv-loop μ-loop
+loop-less c = search needs
+
+loop-again : tie.Need-loop-again Inv-loop μ-loop
+loop-again c =
+    let n = c .before .before in
+    let l = n .before .loop in
+    let s = n .before .before .args in
+    let w = c .matched .result in
+    let room : l .i < length (rows (l .rights)) = rw (rows-length (l .rights)) (search needs) in
+    let same = getD-any (s .t3) (l .i) _ no-rule (search needs) in (
+      search needs,
+      length-set (l .rights) (l .i) w ∙ l .inv .1,
+      subst⁻¹ (Rights (s .nodes) (s .n) (s .t3) _) (rows-set (l .rights) (l .i) w) (rights-more (s .nodes) (s .n) (s .t3) (l .i) (whole w) (rows (l .rights)) room
+          (λ q. c .matched .ensures q ∙ ap (λ (r : Rule). ltb q (s .n) && matchb (wantOf (r .right) (labelAt (s .nodes) q))) same) (l .inv .2)),
+    )
+
+returns : tie.Need-returns Inv-loop μ-loop
+returns c =
+    let e : c .before .loop .i ≡ c .before .before .args .m = omega arith in
+    rw e at (c .before .loop .inv .2)
+
+pub rights-of-spec : {M : Type 1} → statement M
+rights-of-spec =
+    tie.close
+    (tie.spec
+    Inv-loop
+    μ-loop
+    loop-holds
+    mul-rule
+    array-copy-out-rule
+    matched-requires
+    mul-rights
+    array-set-from-rights
+    add-i
+    loop-less
+    loop-again
+    returns)
