@@ -13,8 +13,8 @@ use Rattle.flags.proofs.Digit.{flag-zero}
 use Rattle.flags.proofs.Least.{lowest-set, lowest-first, lowest-lt}
 use Rattle.flags.proofs.Pair.{less-in, less-l, less-out}
 use Rattle.flags.proofs.Put.{put-count}
-use Rattle.sets.specs.Whole.{whole, most, Lowest, Leads}
-use Rattle.sets.proofs.Words.{Small, whole-flag, whole-at}
+use Rattle.sets.specs.Whole.{words, Small, whole, most, Lowest, Leads}
+use Rattle.sets.proofs.Words.{whole-flag, whole-at}
 
 pub unset : {b : Bool} → (b ≡ true → ⊥) → b ≡ false
 unset {b = true} n = absurd (n refl)
@@ -56,10 +56,10 @@ module _ (a b : List ℕ) (sa : Small a) (sb : Small b) where
   spent-word : (k : ℕ) → less (getD a (k / 64) 0) (getD b (k / 64) 0) ≡ 0 → flag (whole a) k ≡ true → flag (whole b) k ≡ true
   spent-word k z h = whole-at b k sb ∙ none-left (getD a (k / 64) 0) (getD b (k / 64) 0) (k % 64) z (sym (whole-at a k sa) ∙ h)
 
-  pub leads-all : length a ≡ 8 → Spent 8 → Leads (whole a) (whole b) most
-  leads-all len s = record { one = λ n. absurd (n refl); none = λ e k h. by k h (decLt (k / 64) 8) }
+  pub leads-all : length a ≡ words → Spent words → Leads (whole a) (whole b) most
+  leads-all len s = record { one = λ n. absurd (n refl); none = λ e k h. by k h (decLt (k / 64) words) }
     where
-      by : (k : ℕ) → flag (whole a) k ≡ true → Dec (k / 64 < 8) → flag (whole b) k ≡ true
+      by : (k : ℕ) → flag (whole a) k ≡ true → Dec (k / 64 < words) → flag (whole b) k ≡ true
       by k h (yes l) = spent-word k (s (k / 64) l) h
       by k h (no l) =
           absurd (true≢false (sym (sym (whole-at a k sa) ∙ h) ∙ ap (λ (w : ℕ). flag w (k % 64)) (List·getD-eq-default a 0 {n = k / 64} (omega (arith, l, len))) ∙ flag-zero (k % 64)))
@@ -74,7 +74,7 @@ module _ (a b : List ℕ) (sa : Small a) (sb : Small b) where
     abbrev t : ℕ
     t = lowest (less x y)
 
-    pub leads-at : i < 8 → Spent i → Leads (whole a) (whole b) (i * 64 + t)
+    pub leads-at : i < words → Spent i → Leads (whole a) (whole b) (i * 64 + t)
     leads-at h s = record {
       one = λ n. record { node = omega (arith, h, low); among = among; new = new; first = first };
       none = λ e. absurd (omega (arith, e, h, low));

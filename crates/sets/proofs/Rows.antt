@@ -4,7 +4,7 @@ use mathlib.Core.List.{List, [], _∷_}
 use mathlib.Core.Path.{_≡_, refl, ap, ap₂, _∙_}
 use Prim.Native.Nat.{ℕ, zero, suc}
 use lib.ListN.{length, getD, set, replicate, length-map, List·getD-map}
-use Rattle.sets.specs.Whole.{whole, rows}
+use Rattle.sets.specs.Whole.{words, whole, rows}
 
 pub row-at : (t : List (List ℕ)) (p : ℕ) → getD (rows t) p 0 ≡ whole (getD t p [])
 unfolding whole
@@ -22,9 +22,9 @@ pub rows-same : (n : ℕ) (s : List ℕ) → rows (replicate n s) ≡ replicate 
 rows-same zero s = refl
 rows-same (suc n) s = ap (λ (l : List ℕ). whole s ∷ l) (rows-same n s)
 
-pub none-whole : whole (replicate 8 0) ≡ 0
+pub none-whole : whole (replicate words 0) ≡ 0
 unfolding whole
 none-whole = refl
 
-pub rows-none : (n : ℕ) → rows (replicate n (replicate 8 0)) ≡ replicate n 0
-rows-none n = rows-same n (replicate 8 0) ∙ ap (replicate n) none-whole
+pub rows-none : (n : ℕ) → rows (replicate n (replicate words 0)) ≡ replicate n 0
+rows-none n = rows-same n (replicate words 0) ∙ ap (replicate n) none-whole

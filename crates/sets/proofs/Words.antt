@@ -18,11 +18,7 @@ use lib.Seq.{getD-set-same, getD-set-other}
 use Rattle.flags.specs.Flag.{digit, flag, put, either, both, less}
 use Rattle.flags.proofs.Digit.{flag-zero}
 use Rattle.flags.proofs.Put.{put-lt, put-count}
-use Rattle.sets.specs.Whole.{whole, counted, most}
-
--- each word has 64 digits
-abbrev pub Small : List ℕ → Type 0
-Small ws = (i : ℕ) → getD ws i 0 < 2 ^ 64
+use Rattle.sets.specs.Whole.{words, Small, whole, counted, most}
 
 -- ---- the digits of a long word: those of its lowest word, then those of the rest
 
@@ -121,18 +117,16 @@ small-put ws i j s h l k = go (ℕ-discrete k i)
     go (yes p) = rw (p, getD-set-same ws i (put (getD ws i 0) j) 0 h) (put-lt (getD ws i 0) j (s i) l)
     go (no n) = rw (getD-set-other ws i k (put (getD ws i 0) j) 0 n) (s k)
 
--- where a number is not in, there is room for it
-pub room : (ws : List ℕ) (k : ℕ) → length ws ≡ 8 → Small ws → k < most → flag (whole ws) k ≡ false → ones (whole ws) < most
-room ws k len s h e =
+-- the same by the number itself: k is put in word k / 64, and a set has room for it
+pub put-whole : (ws : List ℕ) (k : ℕ) → length ws ≡ words → Small ws → k < most
+    → (whole (set ws (k / 64) (put (getD ws (k / 64) 0) (k % 64))) ≡ put (whole ws) k) × (ones (whole (set ws (k / 64) (put (getD ws (k / 64) 0) (k % 64)))) ≤ most)
+put-whole ws k len s h =
     let i = k / 64 in
     let j = k % 64 in
     let at : i < length ws = omega (arith, len, h) in
     let low′ : j < 64 = omega arith in
     let is : i * 64 + j ≡ k = omega arith in
-    let more = set ws i (put (getD ws i 0) j) in
-    let few : ones (whole more) ≤ 8 * 64 = ones-most more 8 (length-set ws i (put (getD ws i 0) j) ∙ len) (small-put ws i j s at low′) in
-    let up : ones (whole more) ≡ ones (whole ws) + 1 = ap ones (whole-put ws i j s at low′ ∙ ap (put (whole ws)) is) ∙ put-count (whole ws) k e in
-    omega (arith, few, up)
+    (whole-put ws i j s at low′ ∙ ap (put (whole ws)) is, ones-most (set ws i (put (getD ws i 0) j)) words (length-set ws i (put (getD ws i 0) j) ∙ len) (small-put ws i j s at low′))
 
 -- ---- two sets, word by word: what is done to the words is done to the sets
 

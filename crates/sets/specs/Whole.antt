@@ -8,6 +8,14 @@ use lib.Count.{ones}
 use lib.ListN.{getD}
 use Rattle.flags.specs.Flag.{flag}
 
+-- how many words a set has
+abbrev pub words : ℕ
+words = 8
+
+-- each word has 64 flags
+abbrev pub Small : List ℕ → Type 0
+Small ws = (i : ℕ) → getD ws i 0 < 2 ^ 64
+
 -- the words as one number
 unfoldable pub whole : List ℕ → ℕ
 whole [] = 0
@@ -24,7 +32,7 @@ rows t = map whole t
 
 -- how many numbers a set can have
 abbrev pub most : ℕ
-most = 512
+most = words * 64
 
 -- k is in a and not in b, and no lower number is
 pub record Lowest (a b k : ℕ) : Type 0 where
@@ -33,7 +41,7 @@ pub record Lowest (a b k : ℕ) : Type 0 where
   pub new : flag b k ≡ false
   pub first : (j : ℕ) → j < k → flag a j ≡ true → flag b j ≡ true
 
--- k is the lowest that is in a and not in b; where all of a is in b it is 512
+-- k is the lowest that is in a and not in b; where all of a is in b it is as many as a set can have
 pub record Leads (a b k : ℕ) : Type 0 where
   pub one : (k ≡ most → ⊥) → Lowest a b k
   pub none : k ≡ most → (j : ℕ) → flag a j ≡ true → flag b j ≡ true

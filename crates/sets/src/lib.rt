@@ -1,10 +1,10 @@
-// A set of numbers below 512, as eight words: number k is in it where flag k % 64 of word k / 64 is set.
+// A set of numbers below 512, as several words: number k is in it where flag k % 64 of word k / 64 is set.
 ghost use mathlib.Core.Path.{_≡_};
 ghost use Prim.Native.Nat.{_<_, _≤_};
 ghost use lib.Count.{ones};
-ghost use lib.Dec.{eqb};
+ghost use lib.ListN.{length};
 ghost use Rattle.flags.specs.Flag.{flag, put, either, both, less};
-ghost use Rattle.sets.specs.Whole.{whole, most, Leads};
+ghost use Rattle.sets.specs.Whole.{words, whole, Small, most, Leads};
 
 // How many words a set has.
 pub const WORDS: usize = 8;
@@ -18,12 +18,27 @@ pub fn none() -> Set
     [0u64; WORDS]
 }
 
+// A set has its words, each of 64 flags. This does nothing: who has only a reference to a set learns it here.
+fn fit(s: Set)
+    ensures { λ r. ⌜ (length s ≡ words) × Small s ⌝ }
+{}
+
 // Whether k is in the set s.
-pub fn has(s: Set, k: usize) -> bool
+pub fn has<'a>(s: &'a Set, k: usize) -> bool
     requires { ⌜ k < most ⌝ }
-    ensures { λ r. ⌜ r ≡ flag (whole s) k ⌝ }
+    ensures { λ r. ⌜ r ≡ flag (whole (now (s .entry))) k ⌝ }
 {
+    fit(*s);
     flags::has(s[k / 64], k % 64)
+}
+
+// Puts k in the set s.
+pub fn put_in<'a>(s: &'a mut Set, k: usize)
+    requires { ⌜ k < most ⌝ }
+    ensures { λ r. ⌜ (whole (now (s .exit)) ≡ put (whole (now (s .entry))) k) × (ones (whole (now (s .exit))) ≤ most) ⌝ }
+{
+    fit(*s);
+    s[k / 64] = flags::with(s[k / 64], k % 64);
 }
 
 // The set s with k put in.
@@ -32,7 +47,7 @@ pub fn with(s: Set, k: usize) -> Set
     ensures { λ r. ⌜ (whole r ≡ put (whole s) k) × (ones (whole r) ≤ most) ⌝ }
 {
     let mut more = s;
-    more[k / 64] = flags::with(s[k / 64], k % 64);
+    put_in(&mut more, k);
     more
 }
 
@@ -80,7 +95,7 @@ pub fn without(a: Set, b: Set) -> Set
     r
 }
 
-// The lowest number that is in a and not in b, and 512 where there is none.
+// The lowest number that is in a and not in b; where there is none, how many a set can have.
 pub fn lowest(a: Set, b: Set) -> usize
     ensures { λ r. ⌜ Leads (whole a) (whole b) r ⌝ }
 {

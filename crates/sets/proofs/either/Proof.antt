@@ -7,18 +7,19 @@ use mir.Val.{Fits}
 use mir.Syntax.{w64}
 use borrow.Author.Needs.{needs}
 use Rattle.flags.specs.Flag.{either}
-use Rattle.sets.proofs.Words.{Small, Made, made-none, made-more, whole-op, either-none, either-block}
+use Rattle.sets.specs.Whole.{words, Small}
+use Rattle.sets.proofs.Words.{Made, made-none, made-more, whole-op, either-none, either-block}
 use Rattle.sets.proofs.either.Statement.{statement}
 use Rattle.sets.proofs.either.Tie as tie
 
 abbrev Inv-loop : tie.InvT-loop
-Inv-loop a b r₀ i₀ r i = (i ≤ 8) × (length r ≡ 8) × Made either a b i r
+Inv-loop a b r₀ i₀ r i = (i ≤ words) × (length r ≡ words) × Made either a b i r
 
 abbrev μ-loop : tie.MeasureT-loop
-μ-loop a b r₀ i₀ r i = 8 - i
+μ-loop a b r₀ i₀ r i = words - i
 
 loop-holds : tie.Need-loop-holds Inv-loop μ-loop
-loop-holds c = (search needs, refl, made-none either (c .args .t1) (c .args .t2) (replicate 8 0))
+loop-holds c = (search needs, refl, made-none either (c .args .t1) (c .args .t2) (replicate words 0))
 
 mul-either : tie.Need-mul-either Inv-loop μ-loop
 mul-either c = search needs
@@ -61,8 +62,8 @@ returns c =
     let l = c .before .loop in
     let smallA : Small a = λ i. let f : Fits w64 (getD a i 0) = search needs in f .fits in
     let smallB : Small b = λ i. let f : Fits w64 (getD b i 0) = search needs in f .fits in
-    let end : l .i ≡ 8 = omega (arith, l .inv .0, c .loop-test .left) in
-    whole-op either either-none either-block a b (l .r) 8 (search needs) (search needs) (l .inv .1) smallA smallB (rw end at (l .inv .2))
+    let end : l .i ≡ words = omega (arith, l .inv .0, c .loop-test .left) in
+    whole-op either either-none either-block a b (l .r) words (search needs) (search needs) (l .inv .1) smallA smallB (rw end at (l .inv .2))
 
 pub either-spec : {M : Type 1} → statement M
 either-spec =

@@ -8,16 +8,16 @@ use mir.Syntax.{w64}
 use borrow.Author.Needs.{needs}
 use Rattle.flags.specs.Flag.{less, lowest}
 use Rattle.flags.proofs.Least.{lowest-lt}
-use Rattle.sets.proofs.Words.{Small}
+use Rattle.sets.specs.Whole.{words, Small}
 use Rattle.sets.proofs.Leading.{Spent, spent-none, spent-more, leads-at, leads-all}
 use Rattle.sets.proofs.lowest.Statement.{statement}
 use Rattle.sets.proofs.lowest.Tie as tie
 
 abbrev Inv-loop : tie.InvT-loop
-Inv-loop a b i₀ i = (i ≤ 8) × (sa : Small a) × (sb : Small b) × Spent a b sa sb i
+Inv-loop a b i₀ i = (i ≤ words) × (sa : Small a) × (sb : Small b) × Spent a b sa sb i
 
 abbrev μ-loop : tie.MeasureT-loop
-μ-loop a b i₀ i = 8 - i
+μ-loop a b i₀ i = words - i
 
 loop-holds : tie.Need-loop-holds Inv-loop μ-loop
 loop-holds c =
@@ -83,7 +83,7 @@ returns-2 : tie.Need-returns-2 Inv-loop μ-loop
 returns-2 c =
     let s = c .before .before .args in
     let l = c .before .loop in
-    let end : l .i ≡ 8 = omega (arith, l .inv .0, c .loop-test .left) in
+    let end : l .i ≡ words = omega (arith, l .inv .0, c .loop-test .left) in
     leads-all (s .t1) (s .t2) (l .inv .1) (l .inv .2) (search needs) (rw end at (l .inv .3))
 
 pub lowest-spec : {M : Type 1} → statement M

@@ -7,16 +7,16 @@ use lib.ListN.{length, getD}
 use mir.Val.{Fits}
 use mir.Syntax.{w64}
 use borrow.Author.Needs.{needs}
-use Rattle.sets.specs.Whole.{counted}
-use Rattle.sets.proofs.Words.{Small, counted-more, whole-ones}
+use Rattle.sets.specs.Whole.{words, Small, counted}
+use Rattle.sets.proofs.Words.{counted-more, whole-ones}
 use Rattle.sets.proofs.size.Statement.{statement}
 use Rattle.sets.proofs.size.Tie as tie
 
 abbrev Inv-loop : tie.InvT-loop
-Inv-loop s n₀ i₀ n i = (i ≤ 8) × (n ≡ counted s i) × (n ≤ i * 64)
+Inv-loop s n₀ i₀ n i = (i ≤ words) × (n ≡ counted s i) × (n ≤ i * 64)
 
 abbrev μ-loop : tie.MeasureT-loop
-μ-loop s n₀ i₀ n i = 8 - i
+μ-loop s n₀ i₀ n i = words - i
 
 loop-holds : tie.Need-loop-holds Inv-loop μ-loop
 loop-holds c = search needs
@@ -55,9 +55,9 @@ returns c =
     let s = c .before .before .args .t1 in
     let l = c .before .loop in
     let small : Small s = λ i. let f : Fits w64 (getD s i 0) = search needs in f .fits in
-    let len : length s ≡ 8 = search needs in
-    let end : l .i ≡ 8 = omega (arith, l .inv .0, c .loop-test .left) in
-    let sum : l .n ≡ counted s 8 = rw end at (l .inv .1) in
+    let len : length s ≡ words = search needs in
+    let end : l .i ≡ words = omega (arith, l .inv .0, c .loop-test .left) in
+    let sum : l .n ≡ counted s words = rw end at (l .inv .1) in
     (sum ∙ ap (counted s) (sym len) ∙ sym (whole-ones s small), omega (arith, l .inv .2, end))
 
 pub size-spec : {M : Type 1} → statement M
