@@ -1,72 +1,77 @@
--- What `lower` keeps while it goes through the nodes whose words are to be brought down.
+-- What `lower` keeps while it goes through the nodes whose rows are to be brought down.
 -- Assumes nothing.
-use mathlib.Core.Bool.{true, true≢false}
+use mathlib.Core.Bool.{true, false, true≢false}
 use mathlib.Core.List.{List}
 use mathlib.Core.Logic.{⊎-elim}
-use mathlib.Core.Path.{_≡_, refl, sym, ap, _∙_}
+use mathlib.Core.Path.{_≡_, refl, sym, ap, subst, _∙_}
 use Prim.Native.Nat.{ℕ, _<_}
 use native.Mathlib.Decide.{decLt, ℕ-discrete}
 use native.Mathlib.Omega.{arith}
 use lib.ListN.{List·getD-eq-default, length-set, length, getD, set}
 use lib.Seq.{getD-set-same, getD-set-other}
-use Rattle.flags.specs.Flag.{flag, put, both}
+use Rattle.flags.specs.Flag.{flag, put, either, both}
 use Rattle.flags.proofs.Digit.{flag-zero}
-use Rattle.flags.proofs.Pair.{both-true}
+use Rattle.flags.proofs.Pair.{either-l, either-r, either-cases, both-true}
 use Rattle.flags.proofs.Put.{put-same, put-cases, put-keeps}
-use Rattle.hope.specs.Hope.{Lowered}
-use Rattle.words.specs.Words.{listed}
+use Rattle.hope.specs.Hope.{Inside, Lowered}
 use Rattle.hope.proofs.Rest.{unset}
 
-pub lowered-none : (l : List ℕ) (m : ℕ) → Lowered l l 0 m 0
-lowered-none l m = record {
-  to = λ y k h. absurd (true≢false (sym h ∙ flag-zero y));
-  down = λ y k h. h;
+pub lowered-none : (l : List ℕ) (met m : ℕ) → Lowered l l met 0 m 0
+lowered-none l met m = record {
+  to = λ y h. absurd (true≢false (sym h ∙ flag-zero y));
+  down = λ y h k s. s;
   same = λ y h. refl;
 }
 
--- its set was there already
-pub lowered-same : {high : List ℕ} (low : List ℕ) (done m fell y old : ℕ) → old ≡ getD low y 0 → ((k : ℕ) → flag old k ≡ true → flag m k ≡ true) → Lowered high low done m fell → Lowered high low (put done y) m fell
-lowered-same low done m fell y old e inside was = record {
-  to = λ z k h s. ⊎-elim (λ (d : z ≡ y). inside k (ap (λ (w : ℕ). flag w k) e ∙ ap (λ (x : ℕ). listed low x k) (sym d) ∙ s)) (λ p. was .to z k p s) (put-cases done y z h);
+-- its row was within m already
+pub lowered-same : {high : List ℕ} (low : List ℕ) (met done m fell y : ℕ) → flag met y ≡ true → Inside (getD low y 0) m → Lowered high low met done m fell → Lowered high low met (put done y) m fell
+lowered-same low met done m fell y old inside was = record {
+  to = λ z h. ⊎-elim (λ (d : z ≡ y). rw d (either-l met fell y old, inside)) (λ p. was .to z p) (put-cases done y z h);
   down = was .down;
   same = was .same;
 }
 
-module _ {high : List ℕ} (low : List ℕ) (done m fell y old new : ℕ) (e₁ : old ≡ getD low y 0) (e₂ : new ≡ both old m) (was : Lowered high low done m fell) where
-  in-old : (k : ℕ) → flag new k ≡ true → listed low y k ≡ true
-  in-old k h = ap (λ (w : ℕ). flag w k) (sym e₁) ∙ both-true old m k (ap (λ (w : ℕ). flag w k) (sym e₂) ∙ h) .0
+-- it has another row, within m and, where it had one, within that
+module _ {high : List ℕ} (low : List ℕ) (met done m fell y new : ℕ) (within : Inside new m) (less : flag met y ≡ true → Inside new (getD low y 0)) (was : Lowered high low met done m fell) where
+  abbrev low′ : List ℕ
+  low′ = set low y new
 
-  in-m : (k : ℕ) → flag new k ≡ true → flag m k ≡ true
-  in-m k h = both-true old m k (ap (λ (w : ℕ). flag w k) (sym e₂) ∙ h) .1
-
-  pub lowered-set : Lowered high (set low y new) (put done y) m (put fell y)
-  lowered-set = record {
-    to = λ z k g s. to′ z k g s (ℕ-discrete z y);
-    down = λ z k s. down′ z k s (ℕ-discrete z y);
-    same = λ z f. getD-set-other low y z new 0 (λ d. true≢false (sym (put-same fell y) ∙ ap (flag (put fell y)) (sym d) ∙ f))
-        ∙ was .same z (unset (λ p. true≢false (sym (put-keeps fell y z p) ∙ f)));
-  }
+  at : Inside (getD low′ y 0) new
+  at k s = go (decLt y (length low))
     where
-      at : (z k : ℕ) → z ≡ y → listed (set low y new) z k ≡ true → flag new k ≡ true
-      at z k d s = go (decLt y (length low))
-        where
-          here : listed (set low y new) y k ≡ true
-          here = ap (λ (x : ℕ). listed (set low y new) x k) (sym d) ∙ s
+      go : Dec (y < length low) → flag new k ≡ true
+      go (yes h) = ap (λ (w : ℕ). flag w k) (sym (getD-set-same low y new 0 h)) ∙ s
+      go (no h) = absurd (true≢false (sym s ∙ ap (λ (w : ℕ). flag w k) (List·getD-eq-default low′ 0 {n = y} (omega (arith, h, length-set low y new))) ∙ flag-zero k))
 
-          go : Dec (y < length low) → flag new k ≡ true
-          go (yes h) = ap (λ (w : ℕ). flag w k) (sym (getD-set-same low y new 0 h)) ∙ here
-          go (no h) = absurd (true≢false (sym here ∙ ap (λ (w : ℕ). flag w k) (List·getD-eq-default (set low y new) 0 {n = y} (omega (arith, h, length-set low y new))) ∙ flag-zero k))
+  off : (z : ℕ) → (z ≡ y → ⊥) → getD low′ z 0 ≡ getD low z 0
+  off z n = getD-set-other low y z new 0 n
 
-      off : (z k : ℕ) → (z ≡ y → ⊥) → listed (set low y new) z k ≡ true → listed low z k ≡ true
-      off z k n s = ap (λ (w : ℕ). flag w k) (sym (getD-set-other low y z new 0 n)) ∙ s
+  wider : (z : ℕ) → flag (either met fell) z ≡ true → flag (either met (put fell y)) z ≡ true
+  wider z h = ⊎-elim (λ p. either-l met (put fell y) z p) (λ p. either-r met (put fell y) z (put-keeps fell y z p)) (either-cases met fell z h)
 
-      to′ : (z k : ℕ) → flag (put done y) z ≡ true → listed (set low y new) z k ≡ true → Dec (z ≡ y) → flag m k ≡ true
-      to′ z k g s (yes d) = in-m k (at z k d s)
-      to′ z k g s (no n) = was .to z k (⊎-elim (λ (d : z ≡ y). absurd (n d)) (λ p. p) (put-cases done y z g)) (off z k n s)
+  to′ : (z : ℕ) → flag (put done y) z ≡ true → Dec (z ≡ y) → (flag (either met (put fell y)) z ≡ true) × Inside (getD low′ z 0) m
+  to′ z g (yes d) = rw d (either-r met (put fell y) y (put-same fell y), λ k s. within k (at k s))
+  to′ z g (no n) =
+      let t = was .to z (⊎-elim (λ (d : z ≡ y). absurd (n d)) (λ p. p) (put-cases done y z g)) in
+      (wider z (t .0), rw (off z n) (t .1))
 
-      down′ : (z k : ℕ) → listed (set low y new) z k ≡ true → Dec (z ≡ y) → listed high z k ≡ true
-      down′ z k s (yes d) = was .down z k (ap (λ (x : ℕ). listed low x k) d ∙ in-old k (at z k d s))
-      down′ z k s (no n) = was .down z k (off z k n s)
+  down′ : (z : ℕ) → flag met z ≡ true → Dec (z ≡ y) → Inside (getD low′ z 0) (getD high z 0)
+  down′ z h (yes d) = rw d (λ k s. was .down y (ap (flag met) (sym d) ∙ h) k (less (ap (flag met) (sym d) ∙ h) k (at k s)))
+  down′ z h (no n) = rw (off z n) (was .down z h)
 
-pub lowered-all : {high low : List ℕ} {m fell : ℕ} (next done : ℕ) → ((y : ℕ) → flag next y ≡ true → flag done y ≡ true) → Lowered high low done m fell → Lowered high low next m fell
-lowered-all next done all was = record { to = λ y k h. was .to y k (all y h); down = was .down; same = was .same }
+  pub lowered-set : Lowered high low′ met (put done y) m (put fell y)
+  lowered-set = record {
+    to = λ z g. to′ z g (ℕ-discrete z y);
+    down = λ z h. down′ z h (ℕ-discrete z y);
+    same = λ z f. off z (λ d. true≢false (sym (put-same fell y) ∙ ap (flag (put fell y)) (sym d) ∙ f)) ∙ was .same z (unset (λ p. true≢false (sym (put-keeps fell y z p) ∙ f)));
+  }
+
+-- what is in both is within each
+pub fallen-m : (old m new : ℕ) → new ≡ both old m → Inside new m
+fallen-m old m new e k h = both-true old m k (ap (λ (w : ℕ). flag w k) (sym e) ∙ h) .1
+
+pub fallen-old : (old m new : ℕ) → new ≡ both old m → Inside new old
+fallen-old old m new e k h = both-true old m k (ap (λ (w : ℕ). flag w k) (sym e) ∙ h) .0
+
+pub lowered-all : {high low : List ℕ} {met m fell : ℕ} (next done : ℕ) → Inside next done → Lowered high low met done m fell → Lowered high low met next m fell
+lowered-all next done all was = record { to = λ y h. was .to y (all y h); down = was .down; same = was .same }

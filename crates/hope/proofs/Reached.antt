@@ -1,90 +1,90 @@
--- What `hopeful` keeps: the words of the nodes that are not left to be looked at are brought down along their steps.
+-- What `hopeful` keeps: the rows of the nodes that are met and not left to be looked at are brought down along their steps.
 -- Assumes nothing.
 use mathlib.Core.Bool.{true, false, true≢false}
 use mathlib.Core.List.{List}
 use mathlib.Core.Logic.{⊎-elim}
-use mathlib.Core.Path.{_≡_, refl, sym, ap, subst, _∙_}
-use Prim.Native.Nat.{ℕ, zero, suc, _<_}
-use native.Mathlib.Decide.{decLt, ℕ-discrete}
-use native.Mathlib.Omega.{arith}
-use lib.ListN.{length, getD, replicate, List·getD-eq-default}
+use mathlib.Core.Path.{_≡_, sym, ap, subst⁻¹, _∙_}
+use Prim.Native.Nat.{ℕ}
+use native.Mathlib.Decide.{ℕ-discrete}
+use lib.ListN.{getD}
 use Rattle.flags.specs.Flag.{flag, put, either, both, less}
 use Rattle.flags.proofs.Digit.{flag-zero}
 use Rattle.flags.proofs.Pair.{either-l, either-r, either-cases, both-true, less-in}
 use Rattle.flags.proofs.Put.{put-other}
-use Rattle.graph.specs.Limits.{most-nodes}
 use Rattle.hope.specs.Rest.{Next, mark}
-use Rattle.hope.specs.Hope.{Lowered, Into}
+use Rattle.hope.specs.Hope.{Inside, Lowered, Into}
 use Rattle.words.specs.Words.{listed}
 use Rattle.hope.proofs.Hope.{Below, no-next}
-use Rattle.hope.proofs.Rest.{unset, mark-keeps}
+use Rattle.hope.proofs.Rest.{unset}
 
 module _ (succ fits : List ℕ) (into visited : ℕ) where
-  -- since the words were `first` they have only fallen
-  pub record Kept (first least : List ℕ) (left : ℕ) : Type 0 where
-    pub down : (y k : ℕ) → listed least y k ≡ true → listed first y k ≡ true
-    pub closed : (x : ℕ) → flag left x ≡ false → Below succ into visited least x (mark fits (getD least x 0) x)
+  -- since `first` had the rows of the nodes in met₀, more nodes are met, and rows have only fallen
+  pub record Kept (met₀ : ℕ) (first : List ℕ) (met : ℕ) (least : List ℕ) (left : ℕ) : Type 0 where
+    pub grown : Inside met₀ met
+    pub down : (y : ℕ) → flag met₀ y ≡ true → Inside (getD least y 0) (getD first y 0)
+    pub closed : (x : ℕ) → flag met x ≡ true → flag left x ≡ false → Below succ into visited met least x (mark fits (getD least x 0) x)
 
   -- the steps from x, once `lower` has gone over them
-  pub spread : {high low : List ℕ} {fell : ℕ} (x m word next : ℕ) → word ≡ getD succ x 0 → next ≡ less word (either visited (both m into)) → Lowered high low next m fell → Below succ into visited low x m
-  spread x m word next e₁ e₂ lowered y s f n k = lowered .to y k (ap (λ (w : ℕ). flag w y) e₂ ∙ less-in word (either visited (both m into)) y (ap (λ (w : ℕ). flag w y) e₁ ∙ s)
+  pub spread : {high low : List ℕ} {met fell : ℕ} (x m word next : ℕ) → word ≡ getD succ x 0 → next ≡ less word (either visited (both m into)) → Lowered high low met next m fell → Below succ into visited (either met fell) low x m
+  spread x m word next e₁ e₂ lowered y s f n = lowered .to y (ap (λ (w : ℕ). flag w y) e₂ ∙ less-in word (either visited (both m into)) y (ap (λ (w : ℕ). flag w y) e₁ ∙ s)
       (unset (λ h. ⊎-elim (λ p. true≢false (sym p ∙ f)) (λ p. let q = both-true m into y p in n (q .0) (q .1)) (either-cases visited (both m into) y h))))
 
-  pub kept-start : (top : ℕ) (high least : List ℕ) (next after fell : ℕ) → length succ ≡ most-nodes
-      → high ≡ replicate most-nodes top
-      → Lowered high least next after fell
-      → Kept least least fell
-  kept-start top high least next after fell long e lowered₀ = record { down = λ y k h. h; closed = λ x h. go x h (decLt x most-nodes) }
-    where
-      lowered : Lowered (replicate most-nodes top) least next after fell
-      lowered = subst (λ (l : List ℕ). Lowered l least next after fell) e lowered₀
+  -- the steps from the last node of the route: before them no node is met
+  pub spread-first : {high low : List ℕ} {none fell : ℕ} (x m word next : ℕ) → none ≡ 0 → word ≡ getD succ x 0 → next ≡ less word (either visited (both m into)) → Lowered high low none next m fell → Below succ into visited fell low x m
+  spread-first {none = none} {fell = fell} x m word next z e₁ e₂ lowered y s f n =
+      let b = spread x m word next e₁ e₂ lowered y s f n in
+      (⊎-elim (λ p. absurd (true≢false (sym p ∙ ap (λ (w : ℕ). flag w y) z ∙ flag-zero y))) (λ p. p) (either-cases none fell y (b .0)), b .1)
 
-      below-top : (n y k : ℕ) → listed (replicate n top) y k ≡ true → flag top k ≡ true
-      below-top zero y k h = absurd (true≢false (sym h ∙ flag-zero k))
-      below-top (suc n) zero k h = h
-      below-top (suc n) (suc y) k h = below-top n y k h
+  -- those are all left to be looked at
+  pub kept-start : (least : List ℕ) (fell : ℕ) → Kept fell least fell least fell
+  kept-start least fell = record { grown = λ k h. h; down = λ y h k s. s; closed = λ x h o. absurd (true≢false (sym h ∙ o)) }
 
-      top-at : (n x : ℕ) → x < n → getD {A = ℕ} (replicate n top) x 0 ≡ top
-      top-at zero x h = absurd (omega arith)
-      top-at (suc n) zero h = refl
-      top-at (suc n) (suc x) h = top-at n x (omega arith)
-
-      go : (x : ℕ) → flag fell x ≡ false → Dec (x < most-nodes) → Below succ into visited least x (mark fits (getD least x 0) x)
-      go x h (yes l) y s f n k p = mark-keeps fits (getD least x 0) x k (ap (λ (w : ℕ). flag w k) (lowered .same x h ∙ top-at most-nodes x l) ∙ below-top most-nodes y k (lowered .down y k p))
-      go x h (no l) y s f n k p = absurd (true≢false (sym s ∙ ap (λ (w : ℕ). flag w y) (List·getD-eq-default succ 0 {n = x} (omega (arith, l, long))) ∙ flag-zero y))
-
-  pub kept-on : (first high low : List ℕ) (left x m word next fell one rest last : ℕ)
+  pub kept-on : (met₀ : ℕ) (first high low : List ℕ) (met wide left x m word next fell one rest last : ℕ)
       → m ≡ mark fits (getD high x 0) x
       → word ≡ getD succ x 0
       → next ≡ less word (either visited (both m into))
-      → Lowered high low next m fell
+      → Lowered high low met next m fell
+      → wide ≡ either met fell
       → one ≡ put 0 x
       → rest ≡ less left one
       → last ≡ either rest fell
-      → Kept first high left
-      → Kept first low last
-  kept-on first high low left x m word next fell one rest last e₁ e₂ e₃ lowered e₄ e₅ e₆ kept = record {
-    down = λ y k p. kept .down y k (lowered .down y k p);
-    closed = λ z h. go z (out z h .0) (out z h .1) (ℕ-discrete z x);
+      → Kept met₀ first met high left
+      → Kept met₀ first wide low last
+  kept-on met₀ first high low met wide left x m word next fell one rest last e₁ e₂ e₃ lowered e₄ e₅ e₆ e₇ kept = record {
+    grown = λ k h. more k (kept .grown k h);
+    down = λ y h k p. kept .down y h k (lowered .down y (kept .grown y h) k p);
+    closed = λ z h o. go z (before z h (out z o .0)) (out z o .0) (out z o .1) (ℕ-discrete z x);
   }
     where
+      more : Inside met wide
+      more k h = ap (λ (w : ℕ). flag w k) e₄ ∙ either-l met fell k h
+
       -- a node that is not left now did not fall, and was not left but for x
       out : (z : ℕ) → flag last z ≡ false → (flag fell z ≡ false) × (flag rest z ≡ false)
       out z h = (
-        unset (λ p. true≢false (sym (ap (λ (w : ℕ). flag w z) e₆ ∙ either-r rest fell z p) ∙ h)),
-        unset (λ p. true≢false (sym (ap (λ (w : ℕ). flag w z) e₆ ∙ either-l rest fell z p) ∙ h)),
+        unset (λ p. true≢false (sym (ap (λ (w : ℕ). flag w z) e₇ ∙ either-r rest fell z p) ∙ h)),
+        unset (λ p. true≢false (sym (ap (λ (w : ℕ). flag w z) e₇ ∙ either-l rest fell z p) ∙ h)),
       )
 
-      go : (z : ℕ) → flag fell z ≡ false → flag rest z ≡ false → Dec (z ≡ x) → Below succ into visited low z (mark fits (getD low z 0) z)
-      go z a b (yes d) =
-          subst (Below succ into visited low z) (e₁ ∙ ap (λ (w : ℕ). mark fits (getD high w 0) w) (sym d) ∙ ap (λ (w : ℕ). mark fits w z) (sym (lowered .same z a)))
-          (subst (λ (w : ℕ). Below succ into visited low w m) (sym d) (spread x m word next e₂ e₃ lowered))
-      go z a b (no n) =
-          let was : flag left z ≡ false =
-          unset (λ p. true≢false (sym (ap (λ (w : ℕ). flag w z) (e₅ ∙ ap (less left) e₄) ∙ less-in left (put 0 x) z p (put-other 0 x z n ∙ flag-zero z)) ∙ b)) in
-          subst (λ (w : ℕ). Below succ into visited low z (mark fits w z)) (sym (lowered .same z a)) (λ y s f m k p. kept .closed z was y s f m k (lowered .down y k p))
+      -- and if it is met it was so before
+      before : (z : ℕ) → flag wide z ≡ true → flag fell z ≡ false → flag met z ≡ true
+      before z h o = ⊎-elim (λ p. p) (λ p. absurd (true≢false (sym p ∙ o))) (either-cases met fell z (ap (λ (w : ℕ). flag w z) (sym e₄) ∙ h))
 
-  pub kept-all : (after v goal : ℕ) → Into fits goal into → (first least : List ℕ) (left : ℕ) → Below succ into visited first v after → Kept first least left → ((j : ℕ) → flag left j ≡ false) → listed least goal goal ≡ true
+      still : (z : ℕ) → flag rest z ≡ false → (z ≡ x → ⊥) → flag left z ≡ false
+      still z r n = unset (λ p. true≢false (sym (ap (λ (w : ℕ). flag w z) e₆ ∙ less-in left one z p (ap (λ (w : ℕ). flag w z) e₅ ∙ put-other 0 x z n ∙ flag-zero z)) ∙ r))
+
+      go : (z : ℕ) → flag met z ≡ true → flag fell z ≡ false → flag rest z ≡ false → Dec (z ≡ x) → Below succ into visited wide low z (mark fits (getD low z 0) z)
+      go z h f r (yes d) = rw (e₄, lowered .same z f, d, ← e₁) (spread x m word next e₂ e₃ lowered)
+      go z h f r (no n) = λ y s o u.
+          let b = kept .closed z h (still z r n) y s o (λ p q. u (ap (λ (w : ℕ). flag (mark fits w z) y) (lowered .same z f) ∙ p) q) in
+          (more y (b .0), rw (lowered .same z f) (λ k p. b .1 k (lowered .down y (b .0) k p)))
+
+  pub kept-all : (after v goal : ℕ) → Into fits goal into → (met₀ : ℕ) (first : List ℕ) (met : ℕ) (least : List ℕ) (left : ℕ)
+      → Below succ into visited met₀ first v after
+      → Kept met₀ first met least left
+      → ((x : ℕ) → flag left x ≡ false)
+      → (flag met goal ≡ true → listed least goal goal ≡ true)
       → (l : List ℕ) → Next succ fits goal visited after v l → ⊥
-  kept-all after v goal known first least left start kept none lost =
-      no-next succ fits goal into visited after known least (λ x. kept .closed x (none x)) lost v (λ y s f n k p. start y s f n k (kept .down y k p))
+  kept-all after v goal known met₀ first met least left start kept none lost =
+      no-next succ fits goal into visited after known met least (λ x h. kept .closed x h (none x)) lost v
+      (λ y s f n. let b = start y s f n in (kept .grown y (b .0), λ k p. b .1 k (kept .down y (b .0) k p)))

@@ -8,16 +8,18 @@ use sets::either;
 use sets::has;
 use sets::lowest;
 use sets::none;
+use sets::put_in;
 use sets::with;
 use sets::without;
 use words::Sets;
 ghost use mathlib.Core.Path.{_≡_};
 ghost use mathlib.Core.Bool.{true, false};
 ghost use mathlib.Core.List.{List};
-ghost use Prim.Native.Nat.{ℕ, _<_};
-ghost use lib.ListN.{length};
+ghost use Prim.Native.Nat.{ℕ, _<_, _≤_};
 ghost use Rattle.graph.specs.Limits.{most-nodes};
+ghost use Rattle.flags.specs.Flag.{flag};
 ghost use Rattle.sets.specs.Whole.{whole, rows};
+ghost use Rattle.words.specs.Words.{listed};
 ghost use Rattle.hope.specs.Rest.{Next, mark};
 ghost use Rattle.hope.specs.Hope.{Into, Lowered};
 
@@ -26,36 +28,33 @@ pub fn marked<'a>(fits: &'a Sets, after: Set, v: usize) -> Set
     requires { ⌜ v < most-nodes ⌝ }
     ensures { λ r. ⌜ whole r ≡ mark (rows (now (fits .entry))) (whole after) v ⌝ }
 {
-    if !has(after, v) {
+    if !has(&after, v) {
         return after;
     }
     either(after, fits[v])
 }
 
-// The nodes that some rule fits with the goal.
-pub fn into_set<'a>(fits: &'a Sets, goal: usize) -> Set
-    requires { ⌜ goal < most-nodes ⌝ }
+// Those of the first n nodes that some rule fits with the goal.
+pub fn into_set<'a>(fits: &'a Sets, n: usize, goal: usize) -> Set
+    requires { ⌜ (n ≤ most-nodes) × (goal < most-nodes) ⌝ }
     ensures { λ r. ⌜ Into (rows (now (fits .entry))) goal (whole r) ⌝ }
 {
     let mut into = none();
-    for p in 0..Graph::NODES {
-        if has(fits[p], goal) {
-            let more = with(into, p);
-            into = more;
+    for p in 0..n {
+        if has(&fits[p], goal) {
+            put_in(&mut into, p);
         }
     }
     into
 }
 
-// The word that has every flag.
-const ALL: u64 = 18446744073709551615;
-
 // How many nodes `hopeful` looks at before it gives up and answers true.
 const ROUNDS: usize = Graph::NODES * Graph::NODES;
 
-// Brings the sets of the nodes in `next` down to what is in m too. The nodes whose sets changed.
-fn lower<'a>(least: &'a mut Sets, next: Set, m: Set) -> Set
-    ensures { λ r. ⌜ Lowered (rows (now (least .entry))) (rows (now (least .exit))) (whole next) (whole m) (whole r) ⌝ }
+// Brings the rows of the nodes in `next` down to what is in m too. A node that is not in `met` has no row yet, and gets m. The nodes whose
+// rows changed.
+fn lower<'a>(least: &'a mut Sets, met: Set, next: Set, m: Set) -> Set
+    ensures { λ r. ⌜ Lowered (rows (now (least .entry))) (rows (now (least .exit))) (whole met) (whole next) (whole m) (whole r) ⌝ }
 {
     let mut done = none();
     let mut fell = none();
@@ -64,19 +63,31 @@ fn lower<'a>(least: &'a mut Sets, next: Set, m: Set) -> Set
         if y == Graph::NODES {
             return fell;
         }
-        let old = least[y];
-        if lowest(old, m) != Graph::NODES {
-            least[y] = both(old, m);
-            let one_more = with(fell, y);
-            fell = one_more;
+        if !has(&met, y) {
+            least[y] = m;
+            put_in(&mut fell, y);
+        } else if lowest(least[y], m) != Graph::NODES {
+            least[y] = both(least[y], m);
+            put_in(&mut fell, y);
         }
-        let more = with(done, y);
-        done = more;
+        put_in(&mut done, y);
     }
 }
 
-// Whether a route may yet go on from v to the goal and leave its ends unordered; where this is false none does. For each node `least` has
-// what is ordered after the first on every way there that goes over no node on the route and none that would then order the goal.
+// Whether a way has come to the goal and leaves it unordered.
+fn came_open<'a>(least: &'a Sets, met: Set, goal: usize) -> bool
+    requires { ⌜ goal < most-nodes ⌝ }
+    ensures { λ r. ⌜ (r ≡ false → flag (whole met) goal ≡ true → listed (rows (now (least .entry))) goal goal ≡ true) ⌝ }
+{
+    if !has(&met, goal) {
+        return false;
+    }
+    !has(&least[goal], goal)
+}
+
+// Whether a route may yet go on from v to the goal and leave its ends unordered; where this is false none does. For each node in `met` its
+// row of `least` has what is ordered after the first on every way there that goes over no node on the route and none that would then order
+// the goal. The table is lent, whatever it has: a row is written before it is read, so none has to be cleared.
 pub fn hopeful<'a>(
     succ: &'a Sets,
     fits: &'a Sets,
@@ -84,20 +95,20 @@ pub fn hopeful<'a>(
     into: Set,
     visited: Set,
     after: Set,
+    least: &'a mut Sets,
     v: usize,
 ) -> bool
-    requires { ⌜ (v < most-nodes) × (goal < most-nodes) ⌝ }
-    requires { ⌜ (length (now succ) ≡ most-nodes) × Into (rows (now fits)) goal (whole into) ⌝ }
+    requires { ⌜ (v < most-nodes) × (goal < most-nodes) × Into (rows (now fits)) goal (whole into) ⌝ }
     ensures { λ r. ⌜ (r ≡ false → (l : List ℕ) → Next (rows (now (succ .entry))) (rows (now (fits .entry))) goal (whole visited) (whole after) v l → ⊥) ⌝ }
 {
-    if has(after, goal) {
+    if has(&after, goal) {
         return false;
     }
-    let mut least = [[ALL; sets::WORDS]; Graph::NODES];
     let first = without(succ[v], either(visited, both(after, into)));
-    let mut left = lower(&mut least, first, after);
+    let mut left = lower(least, none(), first, after);
+    let mut met = left;
     for _round in 0..ROUNDS {
-        if !has(least[goal], goal) {
+        if came_open(least, met, goal) {
             return true;
         }
         let x = lowest(left, none());
@@ -106,9 +117,43 @@ pub fn hopeful<'a>(
         }
         let m = marked(fits, least[x], x);
         let next = without(succ[x], either(visited, both(m, into)));
-        let fell = lower(&mut least, next, m);
+        let fell = lower(least, met, next, m);
+        let wider = either(met, fell);
+        met = wider;
         let rest = either(without(left, with(none(), x)), fell);
         left = rest;
     }
     true
+}
+
+// Whether a route that has come to v has several ways on.
+fn branches<'a>(succ: &'a Sets, visited: Set, v: usize) -> bool
+    requires { ⌜ v < most-nodes ⌝ }
+{
+    let k = lowest(succ[v], visited);
+    if k == Graph::NODES {
+        return false;
+    }
+    lowest(succ[v], with(visited, k)) != Graph::NODES
+}
+
+// Whether it is seen at v that no route goes on and leaves its ends unordered. Where there is one way on it is cheaper to take it, and to ask
+// at the next node that has several.
+pub fn hopeless<'a>(
+    succ: &'a Sets,
+    fits: &'a Sets,
+    goal: usize,
+    into: Set,
+    visited: Set,
+    after: Set,
+    least: &'a mut Sets,
+    v: usize,
+) -> bool
+    requires { ⌜ (v < most-nodes) × (goal < most-nodes) × Into (rows (now fits)) goal (whole into) ⌝ }
+    ensures { λ r. ⌜ (r ≡ true → (l : List ℕ) → Next (rows (now (succ .entry))) (rows (now (fits .entry))) goal (whole visited) (whole after) v l → ⊥) ⌝ }
+{
+    if !branches(succ, visited, v) {
+        return false;
+    }
+    !hopeful(succ, fits, goal, into, visited, after, least, v)
 }

@@ -1,18 +1,20 @@
 // A sharper test than `hopeful`, and a slower one: all the nodes that a route can still come to, each paired with what is then ordered
 // after the first. Routes may be taken for walks here: one that comes back to a node has no less ordered than one that doesn't.
+use crate::branches;
 use crate::hopeful;
 use crate::marked;
 use graph::Graph;
 use sets::Set;
 use sets::has;
 use sets::lowest;
+use sets::put_in;
 use sets::with;
 use words::Sets;
+use words::sized;
 ghost use mathlib.Core.Path.{_≡_};
 ghost use mathlib.Core.Bool.{true, false};
 ghost use mathlib.Core.List.{List};
 ghost use Prim.Native.Nat.{ℕ, _<_, _≤_};
-ghost use lib.ListN.{length};
 ghost use Rattle.graph.specs.Limits.{most-nodes};
 ghost use Rattle.sets.specs.Whole.{whole, rows};
 ghost use Rattle.hope.specs.Rest.{Next};
@@ -38,20 +40,22 @@ fn known<'a>(nodes: &'a [usize; PAIRS], kept: &'a [Set; PAIRS], n: usize, y: usi
     false
 }
 
-// Whether some way on from v to the goal leaves the ends unordered; where this is false none does.
+// Whether some way on from v to the goal leaves the ends unordered; where this is false none does. The table is lent for the sets of the pairs,
+// whatever it has.
 fn some_way<'a>(
     succ: &'a Sets,
     fits: &'a Sets,
     goal: usize,
     visited: Set,
     after: Set,
+    kept: &'a mut Sets,
     v: usize,
 ) -> bool
-    requires { ⌜ (v < most-nodes) × (goal < most-nodes) × (length (now succ) ≡ most-nodes) ⌝ }
+    requires { ⌜ (v < most-nodes) × (goal < most-nodes) ⌝ }
     ensures { λ r. ⌜ (r ≡ false → (l : List ℕ) → Next (rows (now (succ .entry))) (rows (now (fits .entry))) goal (whole visited) (whole after) v l → ⊥) ⌝ }
 {
+    sized(*kept);
     let mut nodes = [0usize; PAIRS];
-    let mut kept = [[0u64; sets::WORDS]; PAIRS];
     nodes[0] = v;
     kept[0] = after;
     let mut n = 1;
@@ -66,11 +70,11 @@ fn some_way<'a>(
                 break;
             }
             let w = marked(fits, ordered, y);
-            if !has(w, goal) {
+            if !has(&w, goal) {
                 if y == goal {
                     return true;
                 }
-                if !known(&nodes, &kept, n, y, w) {
+                if !known(&nodes, kept, n, y, w) {
                     if n == PAIRS {
                         return true;
                     }
@@ -79,15 +83,15 @@ fn some_way<'a>(
                     n += 1;
                 }
             }
-            let more = with(tried, y);
-            tried = more;
+            put_in(&mut tried, y);
         }
         i += 1;
     }
     false
 }
 
-// Whether no way on from v is left, asked once the way over k has failed. Only if `hopeful` didn't see that failure is it worth a longer look.
+// Whether no way on from v is left, asked once the way over k has failed. A longer look is worth it only where there are other ways, and only
+// if `hopeful` didn't see that failure.
 pub fn lost<'a>(
     succ: &'a Sets,
     fits: &'a Sets,
@@ -95,13 +99,16 @@ pub fn lost<'a>(
     into: Set,
     visited: Set,
     after: Set,
+    scratch: &'a mut Sets,
     v: usize,
     k: usize,
 ) -> bool
-    requires { ⌜ (v < most-nodes) × (k < most-nodes) × (goal < most-nodes) ⌝ }
-    requires { ⌜ (length (now succ) ≡ most-nodes) × Into (rows (now fits)) goal (whole into) ⌝ }
+    requires { ⌜ (v < most-nodes) × (k < most-nodes) × (goal < most-nodes) × Into (rows (now fits)) goal (whole into) ⌝ }
     ensures { λ r. ⌜ (r ≡ true → (l : List ℕ) → Next (rows (now (succ .entry))) (rows (now (fits .entry))) goal (whole visited) (whole after) v l → ⊥) ⌝ }
 {
+    if !branches(succ, visited, v) {
+        return false;
+    }
     if !hopeful(
         succ,
         fits,
@@ -109,9 +116,10 @@ pub fn lost<'a>(
         into,
         with(visited, k),
         marked(fits, after, k),
+        scratch,
         k,
     ) {
         return false;
     }
-    !some_way(succ, fits, goal, visited, after, v)
+    !some_way(succ, fits, goal, visited, after, scratch, v)
 }

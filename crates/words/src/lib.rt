@@ -17,7 +17,7 @@ ghost use mathlib.Core.Bool.{true, _&&_};
 ghost use mathlib.Core.Logic.{_↔_};
 ghost use Prim.Native.Nat.{ℕ, _≤_};
 ghost use lib.Dec.{ltb};
-ghost use lib.ListN.{take};
+ghost use lib.ListN.{length, take};
 ghost use Rattle.flags.specs.Flag.{flag};
 ghost use Rattle.graph.specs.Fit.{wantOf};
 ghost use Rattle.graph.specs.Graph.{Sound};
@@ -30,7 +30,12 @@ ghost use Rattle.words.specs.Rows.{matchb, addressedb, nearb, namesb, pa
 // A set for each node.
 pub type Sets = [Set; Graph::NODES];
 
-// For each node the word of the nodes that an edge leads to.
+// A table has a row for each node. This does nothing: who has only a reference to a table learns it here.
+pub fn sized(t: Sets)
+    ensures { λ r. ⌜ length t ≡ most-nodes ⌝ }
+{}
+
+// For each node the set of the nodes that an edge leads to.
 fn succ_words(edges: [Edge; Graph::EDGES], n: usize) -> Sets
     requires { ⌜ (n ≤ most-edges) × Ends edges n ⌝ }
     ensures { λ r. ⌜ ((p q : ℕ) → (listed (rows r) p q ≡ true) ↔ Led edges n p q) ⌝ }

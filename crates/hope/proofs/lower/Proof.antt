@@ -1,4 +1,5 @@
 -- `hope::lower` meets its contract: node by node.
+use mathlib.Core.Bool.{true≢false}
 use mathlib.Core.List.{List, []}
 use mathlib.Core.Logic.{⊎-elim}
 use mathlib.Core.Path.{_≡_, sym, ap, subst, _∙_}
@@ -6,40 +7,32 @@ use Prim.Native.Nat.{ℕ, _-_, _<_}
 use native.Mathlib.Omega.{arith}
 use lib.Count.{ones}
 use lib.ListN.{getD, set}
+use borrow.Author.Tests.{not-true, not-false}
 use Rattle.flags.specs.Flag.{put, both}
 use Rattle.graph.specs.Limits.{most-nodes}
 use Rattle.sets.specs.Whole.{whole, rows, Lowest}
 use Rattle.sets.proofs.Rows.{row-at, rows-set}
 use Rattle.sets.proofs.Leading.{done-count}
 use Rattle.hope.specs.Hope.{Lowered}
-use Rattle.hope.proofs.Fallen.{lowered-none, lowered-same, lowered-set, lowered-all}
+use Rattle.hope.proofs.Fallen.{lowered-none, lowered-same, lowered-set, lowered-all, fallen-m, fallen-old}
 use borrow.Author.Needs.{needs}
 use Rattle.hope.proofs.lower.Statement.{statement}
 use Rattle.hope.proofs.lower.Tie as tie
 
 abbrev Inv-loop : tie.InvT-loop
-Inv-loop least₀ next m done₀ fell₀ least done fell = Lowered (rows least₀) (rows least) (whole done) (whole m) (whole fell)
+Inv-loop least₀ next m met done₀ fell₀ least done fell = Lowered (rows least₀) (rows least) (whole met) (whole done) (whole m) (whole fell)
 
 abbrev μ-loop : tie.MeasureT-loop
-μ-loop least₀ next m done₀ fell₀ least done fell = most-nodes - ones (whole done)
+μ-loop least₀ next m met done₀ fell₀ least done fell = most-nodes - ones (whole done)
 
--- the node whose set is next
+-- the node whose row is next
 low : (c : tie.Else1 Inv-loop μ-loop) → Lowest (whole (c .before .before .before .before .before .args .next)) (whole (c .before .before .loop .done)) (c .before .lowest .result)
 low c = c .before .lowest .ensures .one (c .if1 .left)
-
-none-requires : tie.Need-none-requires Inv-loop μ-loop
-none-requires c κs = search needs
-
-none-requires-2 : tie.Need-none-requires-2 Inv-loop μ-loop
-none-requires-2 c κs = search needs
 
 loop-holds : tie.Need-loop-holds Inv-loop μ-loop
 loop-holds c =
     let s = c .before .before in
-    rw (c .none2 .ensures, c .before .none .ensures) (lowered-none (rows (s .args .least .now)) (whole (s .args .m)))
-
-lowest-requires : tie.Need-lowest-requires Inv-loop μ-loop
-lowest-requires c κs = search needs
+    rw (c .none2 .ensures, c .before .none .ensures) (lowered-none (rows (s .args .least .now)) (whole (s .args .t2)) (whole (s .args .m)))
 
 returns : tie.Need-returns Inv-loop μ-loop
 returns c =
@@ -48,51 +41,69 @@ returns c =
     let s = lo .before .before .before .before in
     lowered-all (whole (s .args .next)) (whole (l .done)) (lo .lowest .ensures .none (c .if1 .taken)) (l .inv)
 
-mul-old : tie.Need-mul-old Inv-loop μ-loop
-mul-old c = omega (arith, low c .node)
+has-requires : tie.Need-has-requires Inv-loop μ-loop
+has-requires c κs = low (c .before) .node
 
-element-copy-out-old : tie.Need-element-copy-out-old Inv-loop μ-loop
-element-copy-out-old c = low c .node
+mul-m : tie.Need-mul-m Inv-loop μ-loop
+mul-m c = omega (arith, low (c .before .before .before) .node)
 
-lowest-requires-2 : tie.Need-lowest-requires-2 Inv-loop μ-loop
-lowest-requires-2 c κs = search needs
+element-set-from-m : tie.Need-element-set-from-m Inv-loop μ-loop
+element-set-from-m c = low (c .before .before .before) .node
 
-both-requires : tie.Need-both-requires Inv-loop μ-loop
-both-requires c κs = search needs
+put-in-requires : tie.Need-put-in-requires Inv-loop μ-loop
+put-in-requires c κs = low (c .before .before .before .before) .node
 
-mul-t16 : tie.Need-mul-t16 Inv-loop μ-loop
-mul-t16 c = omega (arith, low (c .before .before .before .before) .node)
+mul-lowest : tie.Need-mul-lowest Inv-loop μ-loop
+mul-lowest c = omega (arith, low (c .before .before .before) .node)
+
+element-copy-out-lowest : tie.Need-element-copy-out-lowest Inv-loop μ-loop
+element-copy-out-lowest c = low (c .before .before .before) .node
+
+mul-both : tie.Need-mul-both Inv-loop μ-loop
+mul-both c = omega (arith, low (c .before .before .before .before .before .before) .node)
+
+element-copy-out-both : tie.Need-element-copy-out-both Inv-loop μ-loop
+element-copy-out-both c = low (c .before .before .before .before .before .before) .node
+
+mul-t30 : tie.Need-mul-t30 Inv-loop μ-loop
+mul-t30 c = omega (arith, low (c .before .before .before .before .before .before .before .before) .node)
 
 element-set-from-least : tie.Need-element-set-from-least Inv-loop μ-loop
-element-set-from-least c = low (c .before .before .before .before) .node
+element-set-from-least c = low (c .before .before .before .before .before .before .before .before) .node
 
-with-requires : tie.Need-with-requires Inv-loop μ-loop
-with-requires c κs = low (c .before .before .before .before) .node
+put-in-requires-2 : tie.Need-put-in-requires-2 Inv-loop μ-loop
+put-in-requires-2 c κs = low (c .before .before .before .before .before .before .before .before .before) .node
 
-with-requires-2 : tie.Need-with-requires-2 Inv-loop μ-loop
-with-requires-2 c κs = low (c .before .before .before) .node
+put-in-requires-3 : tie.Need-put-in-requires-3 Inv-loop μ-loop
+put-in-requires-3 c κs = low (c .before .before .before .before) .node
 
 loop-less : tie.Need-loop-less Inv-loop μ-loop
 loop-less c =
-    let e = c .before .before .before .before in
+    let e = c .before .before .before .before .before in
     let l = e .before .before .loop in
     let s = e .before .before .before .before .before in
-    omega (arith, done-count (whole (s .args .next)) (whole (l .done)) (e .before .lowest .result) (whole (c .with2 .result)) (low e) (c .with2 .ensures .0) (c .with2 .ensures .1))
+    omega (arith, done-count (whole (s .args .next)) (whole (l .done)) (e .before .lowest .result) (whole (c .put-in3 .last .0)) (low e) (c .put-in3 .ensures .0) (c .put-in3 .ensures .1))
 
 loop-again : tie.Need-loop-again Inv-loop μ-loop
 loop-again c =
-    let j = c .before in
-    let lo2 = j .before in
-    let e = lo2 .before .before in
+    let j = c .before .before in
+    let h = j .before in
+    let e = h .before .before in
     let l = e .before .before .loop in
     let s = e .before .before .before .before .before in
     let y = e .before .lowest .result in
-    let old : whole (getD (l .least) y []) ≡ getD (rows (l .least)) y 0 = sym (row-at (l .least) y) in
+    let met = whole (s .args .t2) in
+    let m = whole (s .args .m) in
+    let done = c .put-in3 .ensures .0 in
+    let row : whole (getD (l .least) y []) ≡ getD (rows (l .least)) y 0 = sym (row-at (l .least) y) in
     ⊎-elim
-    (λ w. rw (w .3, w .4, rows-set (l .least) y (w .1 .result), w .2 .ensures .0, c .with2 .ensures .0)
-    (lowered-set (rows (l .least)) (whole (l .done)) (whole (s .args .m)) (whole (l .fell)) y (whole (getD (l .least) y [])) (whole (w .1 .result)) old (w .1 .ensures) (l .inv)))
-    (λ w. rw (w .1, w .2, c .with2 .ensures .0)
-    (lowered-same (rows (l .least)) (whole (l .done)) (whole (s .args .m)) (whole (l .fell)) y (whole (getD (l .least) y [])) old (lo2 .lowest2 .ensures .none (w .0 .left)) (l .inv)))
+    (λ w. rw (w .3, w .4, rows-set (l .least) y (s .args .m), w .2 .ensures .0, done)
+    (lowered-set (rows (l .least)) met (whole (l .done)) m (whole (l .fell)) y m (λ k p. p) (λ p. absurd (true≢false (sym p ∙ sym (h .has .ensures) ∙ not-true _ (w .0 .taken)))) (l .inv)))
+    (⊎-elim
+    (λ w. rw (w .8, w .9, rows-set (l .least) y (w .5 .result), w .7 .ensures .0, done)
+    (lowered-set (rows (l .least)) met (whole (l .done)) m (whole (l .fell)) y (whole (w .5 .result)) (fallen-m _ m _ (w .5 .ensures)) (λ p. rw (← row) (fallen-old _ m _ (w .5 .ensures))) (l .inv)))
+    (λ w. rw (w .4, w .5, done)
+    (lowered-same (rows (l .least)) met (whole (l .done)) m (whole (l .fell)) y (sym (h .has .ensures) ∙ not-false _ (w .0 .left)) (rw (← row) (w .2 .ensures .none (w .3 .left))) (l .inv))))
     (j .if2 .came)
 
 pub lower-spec : {M : Type 1} → statement M
@@ -101,18 +112,24 @@ lower-spec =
     (tie.spec
     Inv-loop
     μ-loop
-    none-requires
-    none-requires-2
+    (λ c κs. search needs)  -- none-requires
+    (λ c κs. search needs)  -- none-requires-2
     loop-holds
-    lowest-requires
+    (λ c κs. search needs)  -- lowest-requires
     returns
-    mul-old
-    element-copy-out-old
-    lowest-requires-2
-    both-requires
-    mul-t16
+    has-requires
+    mul-m
+    element-set-from-m
+    put-in-requires
+    mul-lowest
+    element-copy-out-lowest
+    (λ c κs. search needs)  -- lowest-requires-2
+    mul-both
+    element-copy-out-both
+    (λ c κs. search needs)  -- both-requires
+    mul-t30
     element-set-from-least
-    with-requires
-    with-requires-2
+    put-in-requires-2
+    put-in-requires-3
     loop-less
     loop-again)

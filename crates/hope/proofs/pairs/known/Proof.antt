@@ -16,24 +16,6 @@ Inv-loop nodes kept n y w j₀ j = j ≤ n
 abbrev μ-loop : tie.MeasureT-loop
 μ-loop nodes kept n y w j₀ j = n - j
 
-loop-holds : tie.Need-loop-holds Inv-loop μ-loop
-loop-holds c = search needs
-
-mul-if1 : tie.Need-mul-if1 Inv-loop μ-loop
-mul-if1 c = search needs
-
-element-copy-out-if1 : tie.Need-element-copy-out-if1 Inv-loop μ-loop
-element-copy-out-if1 c = search needs
-
-mul-lowest : tie.Need-mul-lowest Inv-loop μ-loop
-mul-lowest c = search needs
-
-element-copy-out-lowest : tie.Need-element-copy-out-lowest Inv-loop μ-loop
-element-copy-out-lowest c = search needs
-
-lowest-requires : tie.Need-lowest-requires Inv-loop μ-loop
-lowest-requires c κs = search needs
-
 returns : tie.Need-returns Inv-loop μ-loop
 returns c =
     let lo = c .before in
@@ -42,15 +24,6 @@ returns c =
     let st = n .before .before in
     let j = n .before .loop .j in
     λ e. (j, n .loop-test .taken, th .if1 .taken, λ k h. lo .lowest .ensures .none (c .if2 .taken) k (ap (λ (x : ℕ). flag x k) (sym (row-at (st .args .kept .now) j)) ∙ h))
-
-add-j : tie.Need-add-j Inv-loop μ-loop
-add-j c = search needs
-
-loop-less : tie.Need-loop-less Inv-loop μ-loop
-loop-less c = search needs
-
-loop-again : tie.Need-loop-again Inv-loop μ-loop
-loop-again c = search needs
 
 returns-2 : tie.Need-returns-2 Inv-loop μ-loop
 returns-2 c = λ e. absurd (true≢false (sym e))
@@ -61,14 +34,14 @@ known-spec =
     (tie.spec
     Inv-loop
     μ-loop
-    loop-holds
-    mul-if1
-    element-copy-out-if1
-    mul-lowest
-    element-copy-out-lowest
-    lowest-requires
+    (λ c. search needs)  -- loop-holds
+    (λ c. search needs)  -- mul-if1
+    (λ c. search needs)  -- element-copy-out-if1
+    (λ c. search needs)  -- mul-lowest
+    (λ c. search needs)  -- element-copy-out-lowest
+    (λ c κs. search needs)  -- lowest-requires
     returns
-    add-j
-    loop-less
-    loop-again
+    (λ c. search needs)  -- add-j
+    (λ c. search needs)  -- loop-less
+    (λ c. search needs)  -- loop-again
     returns-2)

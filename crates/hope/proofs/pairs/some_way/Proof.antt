@@ -2,16 +2,18 @@
 use mathlib.Core.Bool.{true≢false}
 use mathlib.Core.List.{List, []}
 use mathlib.Core.Logic.{⊎-elim}
-use mathlib.Core.Path.{_≡_, refl, sym, subst, _∙_}
+use mathlib.Core.Path.{_≡_, refl, sym, ap, subst, _∙_}
 use Prim.Native.Nat.{ℕ, _+_, _-_, _<_}
 use native.Mathlib.Omega.{arith}
 use lib.Count.{ones}
-use lib.ListN.{getD, replicate}
+use lib.ListN.{getD, set, replicate}
+use lib.Seq.{getD-set-same}
 use borrow.Author.Tests.{not-false}
 use Rattle.graph.specs.Limits.{most-nodes}
 use Rattle.sets.specs.Whole.{whole, rows, Lowest}
 use Rattle.sets.proofs.Rows.{row-at, rows-set, rows-length}
 use Rattle.sets.proofs.Leading.{done-count}
+use Rattle.hope.specs.Rest.{Next}
 use Rattle.hope.specs.Hope.{most-pairs}
 use Rattle.hope.proofs.Sifted.{Sifted, sifted-start, sifted-all, Going, going-end, going-ordered, going-known, going-add}
 use borrow.Author.Needs.{needs}
@@ -19,16 +21,24 @@ use Rattle.hope.proofs.pairs.some_way.Statement.{statement}
 use Rattle.hope.proofs.pairs.some_way.Tie as tie
 
 abbrev Inv-loop2 : tie.InvT-loop2
-Inv-loop2 succ fits goal visited v nodes₀ kept₀ n₀ i next ordered tried₀ nodes kept n tried = Going (rows succ) (rows fits) goal (whole visited) (getD (rows kept₀) 0 0) v nodes (rows kept) n i (whole next) (whole ordered) (whole tried)
+Inv-loop2 succ fits goal visited kept₀ v nodes₀ n₀ i next ordered tried₀ kept nodes n tried = Going (rows succ) (rows fits) goal (whole visited) (getD (rows kept₀) 0 0) v nodes (rows kept) n i (whole next) (whole ordered) (whole tried)
 
 abbrev μ-loop2 : tie.MeasureT-loop2
-μ-loop2 succ fits goal visited v nodes₀ kept₀ n₀ i next ordered tried₀ nodes kept n tried = most-nodes - ones (whole tried)
+μ-loop2 succ fits goal visited kept₀ v nodes₀ n₀ i next ordered tried₀ kept nodes n tried = most-nodes - ones (whole tried)
 
 abbrev Inv-loop : tie.InvT-loop
-Inv-loop succ fits goal visited v nodes₀ kept₀ n₀ i₀ nodes kept n i = Sifted (rows succ) (rows fits) goal (whole visited) (getD (rows kept₀) 0 0) v nodes (rows kept) n i (whole visited)
+Inv-loop succ fits goal visited kept₀ v nodes₀ n₀ i₀ kept nodes n i = Sifted (rows succ) (rows fits) goal (whole visited) (getD (rows kept₀) 0 0) v nodes (rows kept) n i (whole visited)
 
 abbrev μ-loop : tie.MeasureT-loop
-μ-loop succ fits goal visited v nodes₀ kept₀ n₀ i₀ nodes kept n i = most-pairs - i
+μ-loop succ fits goal visited kept₀ v nodes₀ n₀ i₀ kept nodes n i = most-pairs - i
+
+-- the set of the first pair
+first : (c : tie.After-sized Inv-loop2 μ-loop2 Inv-loop μ-loop)
+    → getD (rows (set (c .before .before .args .kept .now) 0 (c .before .before .args .after))) 0 0 ≡ whole (c .before .before .args .after)
+first c =
+    let kept = c .before .before .args .kept .now in
+    let after = c .before .before .args .after in
+    ap (λ (l : List ℕ). getD l 0 0) (rows-set kept 0 after) ∙ getD-set-same (rows kept) 0 (whole after) 0 (omega (arith, rows-length kept, c .sized .ensures))
 
 module _ (c : tie.Else1 Inv-loop2 μ-loop2 Inv-loop μ-loop) where
   abbrev turn : tie.At-loop2 Inv-loop2 μ-loop2 Inv-loop μ-loop
@@ -38,23 +48,15 @@ module _ (c : tie.Else1 Inv-loop2 μ-loop2 Inv-loop μ-loop) where
   inner = turn .before .before .before
 
   -- the node that a way goes on to
-  low : Lowest (whole (getD (inner .before .before .args .succ .now) (getD (inner .before .loop .nodes) (inner .before .loop .i) 0) [])) (whole (turn .loop2 .tried)) (c .before .lowest .result)
+  low : Lowest (whole (getD (inner .before .before .before .before .args .succ .now) (getD (inner .before .loop .nodes) (inner .before .loop .i) 0) [])) (whole (turn .loop2 .tried)) (c .before .lowest .result)
   low = c .before .lowest .ensures .one (c .if1 .left)
-
-array-write-nodes : tie.Need-array-write-nodes Inv-loop2 μ-loop2 Inv-loop μ-loop
-array-write-nodes c = search needs
-
-array-set-from-kept : tie.Need-array-set-from-kept Inv-loop2 μ-loop2 Inv-loop μ-loop
-array-set-from-kept c = search needs
 
 loop-holds : tie.Need-loop-holds Inv-loop2 μ-loop2 Inv-loop μ-loop
 loop-holds c =
-    let s = c .args in
-    let y = sifted-start (rows (s .succ .now)) (rows (s .fits .now)) (s .goal) (whole (s .visited)) (whole (s .after)) (s .v) _ _ 1 0 (replicate most-pairs 0) (rows (replicate most-pairs (replicate 8 0))) refl (rows-length (replicate most-pairs (replicate 8 0))) refl (rows-set (replicate most-pairs (replicate 8 0)) 0 (s .after)) refl refl (c .pre .0) in
-    y
-
-mul-next : tie.Need-mul-next Inv-loop2 μ-loop2 Inv-loop μ-loop
-mul-next c = search needs
+    let s = c .before .before in
+    let kept = s .args .kept .now in
+    subst (λ (a : ℕ). Sifted (rows (s .args .succ .now)) (rows (s .args .fits .now)) (s .args .goal) (whole (s .args .visited)) a (s .args .v) (set (replicate most-pairs 0) 0 (s .args .v)) (rows (set kept 0 (s .args .after))) 1 0 (whole (s .args .visited))) (sym (first c))
+    (sifted-start (rows (s .args .succ .now)) (rows (s .args .fits .now)) (s .args .goal) (whole (s .args .visited)) (whole (s .args .after)) (s .args .v) _ _ 1 0 (replicate most-pairs 0) (rows kept) refl (rows-length kept ∙ c .sized .ensures) refl (rows-set kept 0 (s .args .after)) refl refl (s .pre .0))
 
 array-read-next : tie.Need-array-read-next Inv-loop2 μ-loop2 Inv-loop μ-loop
 array-read-next c = omega (arith, c .loop-test .taken, c .before .loop .inv .few)
@@ -65,79 +67,63 @@ mul-next-2 c = let l = c .before .loop in omega (arith, l .inv .low (l .i) (c .l
 element-copy-out-next : tie.Need-element-copy-out-next Inv-loop2 μ-loop2 Inv-loop μ-loop
 element-copy-out-next c = let l = c .before .loop in omega (arith, l .inv .low (l .i) (c .loop-test .taken))
 
-mul-ordered : tie.Need-mul-ordered Inv-loop2 μ-loop2 Inv-loop μ-loop
-mul-ordered c = search needs
-
-array-copy-out-ordered : tie.Need-array-copy-out-ordered Inv-loop2 μ-loop2 Inv-loop μ-loop
-array-copy-out-ordered c = let n = c .before in omega (arith, n .loop-test .taken, n .before .loop .inv .few)
+element-copy-out-ordered : tie.Need-element-copy-out-ordered Inv-loop2 μ-loop2 Inv-loop μ-loop
+element-copy-out-ordered c = let n = c .before in omega (arith, n .loop-test .taken, n .before .loop .inv .few)
 
 loop2-holds : tie.Need-loop2-holds Inv-loop2 μ-loop2 Inv-loop μ-loop
 loop2-holds c =
     let n = c .before .before in
     let l = n .before .loop in
-    let s = n .before .before .args in
+    let s = n .before .before .before .before in
     record {
       within = n .loop-test .taken;
-      onto = sym (row-at (s .succ .now) (getD (l .nodes) (l .i) 0));
+      onto = sym (row-at (s .args .succ .now) (getD (l .nodes) (l .i) 0));
       ordered = sym (row-at (l .kept) (l .i));
-      sifted = subst (λ (a : ℕ). Sifted (rows (s .succ .now)) (rows (s .fits .now)) (s .goal) (whole (s .visited)) a (s .v) (l .nodes) (rows (l .kept)) (l .n) (l .i) (whole (s .visited))) (sym (l .inv .start .1)) (l .inv);
+      sifted = subst (λ (a : ℕ). Sifted (rows (s .args .succ .now)) (rows (s .args .fits .now)) (s .args .goal) (whole (s .args .visited)) a (s .args .v) (l .nodes) (rows (l .kept)) (l .n) (l .i) (whole (s .args .visited))) (sym (l .inv .start .1)) (l .inv);
     }
-
-lowest-requires : tie.Need-lowest-requires Inv-loop2 μ-loop2 Inv-loop μ-loop
-lowest-requires c κs = search needs
 
 marked-requires : tie.Need-marked-requires Inv-loop2 μ-loop2 Inv-loop μ-loop
 marked-requires c κs = low c .node
-
-has-requires : tie.Need-has-requires Inv-loop2 μ-loop2 Inv-loop μ-loop
-has-requires c κs = search needs
 
 returns : tie.Need-returns Inv-loop2 μ-loop2 Inv-loop μ-loop
 returns c = λ e. absurd (true≢false e)
 
 known-requires : tie.Need-known-requires Inv-loop2 μ-loop2 Inv-loop μ-loop
-known-requires c κs = turn (c .before .before .before .before .before .before) .loop2 .inv .sifted .few
+known-requires c κs = turn (c .before .before .before .before .before .before .before) .loop2 .inv .sifted .few
 
 returns-2 : tie.Need-returns-2 Inv-loop2 μ-loop2 Inv-loop μ-loop
 returns-2 c = λ e. absurd (true≢false e)
 
-mul-nodes : tie.Need-mul-nodes Inv-loop2 μ-loop2 Inv-loop μ-loop
-mul-nodes c = search needs
-
 array-write-nodes-2 : tie.Need-array-write-nodes-2 Inv-loop2 μ-loop2 Inv-loop μ-loop
 array-write-nodes-2 c =
-    let lo = c .before .before .before .before .before .before .before .before .before in
+    let lo = c .before .before .before .before .before .before .before .before .before .before in
     omega (arith, turn lo .loop2 .inv .sifted .few, c .if5 .left)
 
-mul-kept : tie.Need-mul-kept Inv-loop2 μ-loop2 Inv-loop μ-loop
-mul-kept c = search needs
-
-array-set-from-kept-2 : tie.Need-array-set-from-kept-2 Inv-loop2 μ-loop2 Inv-loop μ-loop
-array-set-from-kept-2 c =
-    let lo = c .before .before .before .before .before .before .before .before .before in
+element-set-from-kept : tie.Need-element-set-from-kept Inv-loop2 μ-loop2 Inv-loop μ-loop
+element-set-from-kept c =
+    let lo = c .before .before .before .before .before .before .before .before .before .before in
     omega (arith, turn lo .loop2 .inv .sifted .few, c .if5 .left)
 
-add-n : tie.Need-add-n Inv-loop2 μ-loop2 Inv-loop μ-loop
-add-n c = search needs
-
-with-requires : tie.Need-with-requires Inv-loop2 μ-loop2 Inv-loop μ-loop
-with-requires c κs = low (c .before .before .before) .node
+put-in-requires : tie.Need-put-in-requires Inv-loop2 μ-loop2 Inv-loop μ-loop
+put-in-requires c κs = low (c .before .before .before .before .before) .node
 
 loop2-less : tie.Need-loop2-less Inv-loop2 μ-loop2 Inv-loop μ-loop
 loop2-less c =
-    let lo = c .before .before .before .before in
-    omega (arith, done-count _ (whole (turn lo .loop2 .tried)) (lo .before .lowest .result) (whole (c .with .result)) (low lo) (c .with .ensures .0) (c .with .ensures .1))
+    let lo = c .before .before .before .before .before .before in
+    omega (arith, done-count _ (whole (turn lo .loop2 .tried)) (lo .before .lowest .result) (whole (c .put-in .last .0)) (low lo) (c .put-in .ensures .0) (c .put-in .ensures .1))
 
 loop2-again : tie.Need-loop2-again Inv-loop2 μ-loop2 Inv-loop μ-loop
 loop2-again c =
-    let j = c .before in
-    let ma = j .before .before in
+    let j = c .before .before in
+    let ha = j .before in
+    let ma = ha .before .before in
     let lo = ma .before in
     let g = turn lo .loop2 .inv in
     let w = ma .marked .ensures in
-    ⊎-elim (λ a. rw (a .7, a .8, a .9, rows-set (turn lo .loop2 .kept) (turn lo .loop2 .n) (ma .marked .result)) (going-add _ _ _ _ _ _ _ _ _ _ _ _ _ g _ _ _ w (c .with .ensures .0) (a .1 .left) (omega (arith, g .sifted .few, a .6 .left)) (low lo .node)))
-    (⊎-elim (λ a. rw (a .6, a .7, a .8) (going-known _ _ _ _ _ _ _ _ _ _ _ _ _ g _ _ _ w (c .with .ensures .0) (a .1 .left) (a .4 .ensures (not-false _ (a .5 .left)))))
-    (λ a. rw (a .1, a .2, a .3) (going-ordered _ _ _ _ _ _ _ _ _ _ _ _ _ g _ _ _ w (c .with .ensures .0) (sym (j .before .has .ensures) ∙ not-false _ (a .0 .left)))))
+    let more = c .put-in .ensures .0 in
+    ⊎-elim (λ a. rw (a .7, a .8, a .9, rows-set (turn lo .loop2 .kept) (turn lo .loop2 .n) (ma .marked .result)) (going-add _ _ _ _ _ _ _ _ _ _ _ _ _ g _ _ _ w more (a .1 .left) (omega (arith, g .sifted .few, a .6 .left)) (low lo .node)))
+    (⊎-elim (λ a. rw (a .6, a .7, a .8) (going-known _ _ _ _ _ _ _ _ _ _ _ _ _ g _ _ _ w more (a .1 .left) (a .4 .ensures (not-false _ (a .5 .left)))))
+    (λ a. rw (a .1, a .2, a .3) (going-ordered _ _ _ _ _ _ _ _ _ _ _ _ _ g _ _ _ w more (sym (ha .has .ensures) ∙ not-false _ (a .0 .left)))))
     (j .if2 .came)
 
 add-i : tie.Need-add-i Inv-loop2 μ-loop2 Inv-loop μ-loop
@@ -155,12 +141,15 @@ loop-again c =
     let lo = c .before in
     let t = lo .before in
     let n = t .before .before .before in
-    let s = n .before .before .args in
+    let s = n .before .before .before .before in
     let e = going-end _ _ _ _ _ _ _ _ _ _ _ _ _ (t .loop2 .inv) (lo .lowest .ensures .none (c .if1 .taken)) in
-    subst (λ (a : ℕ). Sifted (rows (s .succ .now)) (rows (s .fits .now)) (s .goal) (whole (s .visited)) a (s .v) (t .loop2 .nodes) (rows (t .loop2 .kept)) (t .loop2 .n) (n .before .loop .i + 1) (whole (s .visited))) (n .before .loop .inv .start .1) e
+    subst (λ (a : ℕ). Sifted (rows (s .args .succ .now)) (rows (s .args .fits .now)) (s .args .goal) (whole (s .args .visited)) a (s .args .v) (t .loop2 .nodes) (rows (t .loop2 .kept)) (t .loop2 .n) (n .before .loop .i + 1) (whole (s .args .visited))) (n .before .loop .inv .start .1) e
 
 returns-3 : tie.Need-returns-3 Inv-loop2 μ-loop2 Inv-loop μ-loop
-returns-3 c = λ e. sifted-all _ _ _ _ _ _ _ _ _ _ (c .before .loop .inv) (omega (arith, c .loop-test .left))
+returns-3 c =
+    let l = c .before in
+    let s = l .before .before .before in
+    λ e. subst (λ (a : ℕ). (w : List ℕ) → Next (rows (s .args .succ .now)) (rows (s .args .fits .now)) (s .args .goal) (whole (s .args .visited)) a (s .args .v) w → ⊥) (first (l .before)) (sifted-all _ _ _ _ _ _ _ _ _ _ (l .loop .inv) (omega (arith, c .loop-test .left)))
 
 pub some-way-spec : {M : Type 1} → statement M
 some-way-spec =
@@ -170,28 +159,29 @@ some-way-spec =
     μ-loop2
     Inv-loop
     μ-loop
-    array-write-nodes
-    array-set-from-kept
+    (λ c κs. search needs)  -- sized-requires
+    (λ c. search needs)  -- array-write-nodes
+    (λ c. search needs)  -- element-set-from-after
     loop-holds
-    mul-next
+    (λ c. search needs)  -- mul-next
     array-read-next
     mul-next-2
     element-copy-out-next
-    mul-ordered
-    array-copy-out-ordered
+    (λ c. search needs)  -- mul-ordered
+    element-copy-out-ordered
     loop2-holds
-    lowest-requires
+    (λ c κs. search needs)  -- lowest-requires
     marked-requires
-    has-requires
+    (λ c κs. search needs)  -- has-requires
     returns
     known-requires
     returns-2
-    mul-nodes
+    (λ c. search needs)  -- mul-nodes
     array-write-nodes-2
-    mul-kept
-    array-set-from-kept-2
-    add-n
-    with-requires
+    (λ c. search needs)  -- mul-t43
+    element-set-from-kept
+    (λ c. search needs)  -- add-n
+    put-in-requires
     loop2-less
     loop2-again
     add-i
