@@ -104,11 +104,14 @@ module _ (a b : List ℕ) (sa : Small a) (sb : Small b) where
                 ap (flag (whole b)) e ∙ whole-flag b i (j % 64) sb m
                 ∙ below-lowest x y (j % 64) fit some r (sym (whole-flag a i (j % 64) sa m) ∙ ap (flag (whole a)) (sym e) ∙ f)
 
--- one more is done, and there was room for it
-pub done-count : (a done k more : ℕ) → Lowest a done k → more ≡ put done k → ones more ≤ most → (ones more ≡ ones done + 1) × (ones done < most)
-done-count a done k more low e few =
-    let up : ones more ≡ ones done + 1 = ap ones e ∙ put-count done k (low .new) in
+-- one more is put in, and there was room for it
+pub put-room : (s k more : ℕ) → flag s k ≡ false → more ≡ put s k → ones more ≤ most → (ones more ≡ ones s + 1) × (ones s < most)
+put-room s k more new e few =
+    let up : ones more ≡ ones s + 1 = ap ones e ∙ put-count s k new in
     (up, omega (arith, up, few))
+
+pub done-count : (a done k more : ℕ) → Lowest a done k → more ≡ put done k → ones more ≤ most → (ones more ≡ ones done + 1) × (ones done < most)
+done-count a done k more low e few = put-room done k more (low .new) e few
 
 -- nothing of a is left where nothing is in b
 pub all-out : (a b : ℕ) → b ≡ 0 → ((j : ℕ) → flag a j ≡ true → flag b j ≡ true) → (j : ℕ) → flag a j ≡ false

@@ -1,6 +1,7 @@
 // The walk along the routes of a graph, for the first one that does not order its ends.
 use graph::Graph;
 use hope::hopeful;
+use hope::hopeless;
 use hope::into_set;
 use hope::marked;
 use hope::pairs::lost;
@@ -8,6 +9,7 @@ use sets::Set;
 use sets::has;
 use sets::lowest;
 use sets::none;
+use sets::put_in;
 use sets::size;
 use sets::with;
 use words::Sets;
@@ -43,17 +45,18 @@ fn visit<'a>(
     visited: Set,
     after: Set,
     nodes: [u16; Graph::NODES],
+    scratch: &'a mut Sets,
     v: usize,
 ) -> Way
-    requires { ⌜ (v < most-nodes) × (goal < most-nodes) × (flag (whole visited) v ≡ false) ⌝ }
-    requires { ⌜ (length (now succ) ≡ most-nodes) × Into (rows (now fits)) goal (whole into) ⌝ }
+    requires { ⌜ (v < most-nodes) × (goal < most-nodes) × (flag (whole visited) v ≡ false) × Into (rows (now fits)) goal (whole into) ⌝ }
     ensures { λ r. ⌜ Answer (Rest (rows (now (succ .entry))) (rows (now (fits .entry))) goal (whole visited) (whole after) v) (take (ones (whole visited)) nodes) r ⌝ }
 {
     let n = size(visited);
+    let on_route = with(visited, v);
     let mut longer = nodes;
     longer[n] = v as u16;
     if v == goal {
-        if has(after, v) {
+        if has(&after, v) {
             return Way { len: 0, nodes };
         }
         return Way {
@@ -66,9 +69,10 @@ fn visit<'a>(
         fits,
         goal,
         into,
-        with(visited, v),
+        on_route,
         marked(fits, after, v),
         longer,
+        scratch,
         v,
     )
 }
@@ -82,13 +86,13 @@ fn trial<'a>(
     visited: Set,
     after: Set,
     nodes: [u16; Graph::NODES],
+    scratch: &'a mut Sets,
     v: usize,
 ) -> Way
-    requires { ⌜ (v < most-nodes) × (goal < most-nodes) ⌝ }
-    requires { ⌜ (length (now succ) ≡ most-nodes) × Into (rows (now fits)) goal (whole into) ⌝ }
+    requires { ⌜ (v < most-nodes) × (goal < most-nodes) × Into (rows (now fits)) goal (whole into) ⌝ }
     ensures { λ r. ⌜ Answer (Next (rows (now (succ .entry))) (rows (now (fits .entry))) goal (whole visited) (whole after) v) (take (ones (whole visited)) nodes) r ⌝ }
 {
-    if !hopeful(succ, fits, goal, into, visited, after, v) {
+    if hopeless(succ, fits, goal, into, visited, after, scratch, v) {
         return Way { len: 0, nodes };
     }
     let mut tried = visited;
@@ -97,29 +101,39 @@ fn trial<'a>(
         if k == Graph::NODES {
             return Way { len: 0, nodes };
         }
-        let way = visit(succ, fits, goal, into, visited, after, nodes, k);
+        let way = visit(succ, fits, goal, into, visited, after, nodes, scratch, k);
         if 0 < way.len {
             return way;
         }
-        if lost(succ, fits, goal, into, visited, after, v, k) {
+        if lost(succ, fits, goal, into, visited, after, scratch, v, k) {
             return Way { len: 0, nodes };
         }
-        let more = with(tried, k);
-        tried = more;
+        put_in(&mut tried, k);
     }
 }
 
-// Whether the order (a, b) is held in a graph with these words: where it is, len is 0, and where not, this is the first route that does not
-// order its ends.
-pub fn open_route<'a>(succ: &'a Sets, fits: &'a Sets, a: usize, b: usize) -> Way
-    requires { ⌜ (a < most-nodes) × (b < most-nodes) × (length (now succ) ≡ most-nodes) ⌝ }
+// Whether the order (a, b) is held in a graph of n nodes with these tables: where it is, len is 0, and where not, this is the first route that
+// does not order its ends. The third table is lent to the tests for a way on, whatever it has.
+pub fn open_route<'a>(
+    succ: &'a Sets,
+    fits: &'a Sets,
+    scratch: &'a mut Sets,
+    n: usize,
+    a: usize,
+    b: usize,
+) -> Way
+    requires { ⌜ (n ≤ most-nodes) × (a < most-nodes) × (b < most-nodes) ⌝ }
     ensures { λ r. ⌜ (r .len ≤ most-nodes) × AskedOf (rows (now (succ .entry))) (rows (now (fits .entry))) a b (take (r .len) (r .nodes)) ⌝ }
 {
     let after = fits[a];
     let mut nodes = [0u16; Graph::NODES];
     nodes[0] = a as u16;
-    let into = into_set(fits, b);
-    trial(succ, fits, b, into, with(none(), a), after, nodes, a)
+    let into = into_set(fits, n, b);
+    let visited = with(none(), a);
+    if !hopeful(succ, fits, b, into, visited, after, scratch, a) {
+        return Way { len: 0, nodes };
+    }
+    trial(succ, fits, b, into, visited, after, nodes, scratch, a)
 }
 
 // For each order whether it is open.
@@ -129,11 +143,20 @@ pub fn open_orders(g: Graph) -> [bool; Graph::ORDERS]
 {
     let succ = succ_of(g);
     let fits = fits_of(g);
+    let mut scratch = [[0u64; sets::WORDS]; Graph::NODES];
+    let n = g.node_count;
     let orders = g.orders;
     let mut open = [false; Graph::ORDERS];
     for i in 0..g.order_count {
         let order = orders[i];
-        let way = open_route(&succ, &fits, order.first as usize, order.second as usize);
+        let way = open_route(
+            &succ,
+            &fits,
+            &mut scratch,
+            n,
+            order.first as usize,
+            order.second as usize,
+        );
         open[i] = 0 < way.len;
     }
     open

@@ -13,55 +13,28 @@ use Rattle.walk.proofs.open_orders.Statement.{statement}
 use Rattle.walk.proofs.open_orders.Tie as tie
 
 abbrev Inv-loop : tie.InvT-loop
-Inv-loop succ fits orders open₀ i₀ i-end «open» i = (i ≤ i-end) × (length «open» ≡ most-orders) × ((j : ℕ) → j < i → Judged (rows succ) (rows fits) orders «open» j)
+Inv-loop succ fits scratch₀ n orders open₀ i₀ i-end scratch «open» i = (i ≤ i-end) × (length «open» ≡ most-orders) × ((j : ℕ) → j < i → Judged (rows succ) (rows fits) orders «open» j)
 
 abbrev μ-loop : tie.MeasureT-loop
-μ-loop succ fits orders open₀ i₀ i-end «open» i = i-end - i
-
-succ-of-requires : tie.Need-succ-of-requires Inv-loop μ-loop
-succ-of-requires c κs = search needs
-
-fits-of-requires : tie.Need-fits-of-requires Inv-loop μ-loop
-fits-of-requires c κs = search needs
-
-loop-holds : tie.Need-loop-holds Inv-loop μ-loop
-loop-holds c = (search needs, refl, λ j h. absurd (omega (arith, h)))
-
-mul-order : tie.Need-mul-order Inv-loop μ-loop
-mul-order c = search needs
-
-array-copy-out-order : tie.Need-array-copy-out-order Inv-loop μ-loop
-array-copy-out-order c = search needs
-
-cast-open-route : tie.Need-cast-open-route Inv-loop μ-loop
-cast-open-route c = search needs
-
-cast-open-route-2 : tie.Need-cast-open-route-2 Inv-loop μ-loop
-cast-open-route-2 c = search needs
-
-open-route-requires : tie.Need-open-route-requires Inv-loop μ-loop
-open-route-requires c κs =
-    let n = c .before .before .before .before .before in
-    let s = n .before .before .before .before .before in
-    let ends = all-named (s .args .g) _ (nodes-few (s .args .g) (s .pre .0)) (s .pre .2) (n .before .loop .i) (n .loop-test .taken) in
-    (ends .0, ends .1, search needs)
-
-array-write-open : tie.Need-array-write-open Inv-loop μ-loop
-array-write-open c = search needs
-
-add-i : tie.Need-add-i Inv-loop μ-loop
-add-i c = search needs
-
-loop-less : tie.Need-loop-less Inv-loop μ-loop
-loop-less c = search needs
+μ-loop succ fits scratch₀ n orders open₀ i₀ i-end scratch «open» i = i-end - i
 
 long : (c : tie.After-open-route Inv-loop μ-loop) → length (c .open-route .result .nodes) ≡ most-nodes
 long c = search needs
 
+loop-holds : tie.Need-loop-holds Inv-loop μ-loop
+loop-holds c = (search needs, refl, λ j h. absurd (omega (arith, h)))
+
+open-route-requires : tie.Need-open-route-requires Inv-loop μ-loop
+open-route-requires c κs =
+    let n = c .before .before .before .before .before .before in
+    let s = n .before .before .before .before .before in
+    let ends = all-named (s .args .g) _ (nodes-few (s .args .g) (s .pre .0)) (s .pre .2) (n .before .loop .i) (n .loop-test .taken) in
+    (search needs, ends .0, ends .1)
+
 loop-again : tie.Need-loop-again Inv-loop μ-loop
 loop-again c =
     let o = c .before in
-    let n = o .before .before .before .before .before .before in
+    let n = o .before .before .before .before .before .before .before in
     let l = n .before .loop in
     let f = n .before .before .before in
     let s = f .before .before in
@@ -86,16 +59,16 @@ open-orders-spec =
     (tie.spec
     Inv-loop
     μ-loop
-    succ-of-requires
-    fits-of-requires
+    (λ c κs. search needs)  -- succ-of-requires
+    (λ c κs. search needs)  -- fits-of-requires
     loop-holds
-    mul-order
-    array-copy-out-order
-    cast-open-route
-    cast-open-route-2
+    (λ c. search needs)  -- mul-order
+    (λ c. search needs)  -- array-copy-out-order
+    (λ c. search needs)  -- cast-open-route
+    (λ c. search needs)  -- cast-open-route-2
     open-route-requires
-    array-write-open
-    add-i
-    loop-less
+    (λ c. search needs)  -- array-write-open
+    (λ c. search needs)  -- add-i
+    (λ c. search needs)  -- loop-less
     loop-again
     returns)
