@@ -38,8 +38,16 @@ pub fn ask(g: Graph, order: u64, route: &mut [u16]) -> Shown
     }
     let succ = words::succ_of(g);
     let fits = words::fits_of(g);
+    let mut scratch = [[0u64; sets::WORDS]; Graph::NODES];
     let o = g.orders[order as usize];
-    let way = walk::open_route(&succ, &fits, o.first as usize, o.second as usize);
+    let way = walk::open_route(
+        &succ,
+        &fits,
+        &mut scratch,
+        g.node_count,
+        o.first as usize,
+        o.second as usize,
+    );
     let nodes = way.nodes;
     let length = put_route(route, nodes, way.len);
     Shown {

@@ -1,6 +1,6 @@
 -- What holds of every list that the search looks for: it starts with a node that is not on the route, and the goal is not ordered yet.
 -- Assumes nothing.
-use mathlib.Core.Bool.{Bool, true, false, true≢false, cond}
+use mathlib.Core.Bool.{Bool, true, false, true≢false}
 use mathlib.Core.List.{List}
 use mathlib.Core.Logic.{inl, ⊎-elim}
 use mathlib.Core.Path.{_≡_, refl, sym, ap, _∙_}
@@ -20,10 +20,10 @@ unset {b = false} n = refl
 
 module _ (fits : List ℕ) (after v : ℕ) where
   pub mark-same : flag after v ≡ false → mark fits after v ≡ after
-  mark-same e = ap (λ (b : Bool). cond b (either after (getD fits v 0)) after) e
+  mark-same e = rw e refl
 
   pub mark-more : flag after v ≡ true → mark fits after v ≡ either after (getD fits v 0)
-  mark-more e = ap (λ (b : Bool). cond b (either after (getD fits v 0)) after) e
+  mark-more e = rw e refl
 
   pub mark-keeps : (k : ℕ) → flag after k ≡ true → flag (mark fits after v) k ≡ true
   mark-keeps k e = by (flag after v) refl

@@ -1,7 +1,7 @@
 -- Tables of sets: what is read and written in one.
 -- Assumes nothing.
 use mathlib.Core.List.{List, [], _∷_}
-use mathlib.Core.Path.{_≡_, refl, ap, ap₂, _∙_}
+use mathlib.Core.Path.{_≡_, refl, ap, _∙_}
 use Prim.Native.Nat.{ℕ, zero, suc}
 use lib.ListN.{length, getD, set, replicate, length-map, List·getD-map}
 use Rattle.sets.specs.Whole.{words, whole, rows}

@@ -1,6 +1,5 @@
 -- The words of a set, over any number of words: its flags, its count, a number put in, and two sets word by word.
 -- Assumes nothing.
-use mathlib.Core.Bool.{true, false}
 use mathlib.Core.List.{List, [], _∷_}
 use mathlib.Core.Path.{_≡_, refl, sym, ap, ap₂, _∙_, subst}
 use Prim.Native.Nat.{ℕ, zero, suc, _+_, _-_, _*_, _/_, _%_, _^_, _<_, _≤_}
@@ -8,7 +7,6 @@ use native.Mathlib.Decide.{ℕ-discrete}
 use native.Mathlib.Nat.{one-mul, mul-comm, add-zero, zero-lt-suc}
 use native.Mathlib.Numerals.{add-one}
 use native.Mathlib.Omega.{arith}
-use lib.Arith.{digits-lt}
 use lib.Bits.{bitOr, bitAnd, bitXor, or-block, and-block, xor-block, and-lt, or-zero-r}
 use lib.Count.{ones, ones-cat, ones-le}
 use lib.Dec.{eqb}
@@ -17,7 +15,7 @@ use lib.Pow.{pow-pos, pow-lt, pow-add, high, low, field, mod-mod-pow, shr-shr}
 use lib.Seq.{getD-set-same, getD-set-other}
 use Rattle.flags.specs.Flag.{digit, flag, put, either, both, less}
 use Rattle.flags.proofs.Digit.{flag-zero}
-use Rattle.flags.proofs.Put.{put-lt, put-count}
+use Rattle.flags.proofs.Put.{put-lt}
 use Rattle.sets.specs.Whole.{words, Small, whole, counted, most}
 
 -- ---- the digits of a long word: those of its lowest word, then those of the rest

@@ -56,8 +56,8 @@ pub fn size(s: Set) -> usize
     ensures { λ r. ⌜ (r ≡ ones (whole s)) × (r ≤ most) ⌝ }
 {
     let mut n = 0;
-    for i in 0..WORDS {
-        n += flags::size(s[i]);
+    for word in 0..WORDS {
+        n += flags::size(s[word]);
     }
     n
 }

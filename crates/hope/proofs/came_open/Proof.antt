@@ -1,6 +1,6 @@
 -- `hope::came_open` meets its contract.
 use mathlib.Core.Bool.{true≢false}
-use mathlib.Core.Path.{_≡_, sym, ap, _∙_}
+use mathlib.Core.Path.{sym, ap, _∙_}
 use Prim.Native.Nat.{ℕ}
 use borrow.Author.Tests.{not-true, not-false}
 use Rattle.flags.specs.Flag.{flag}

@@ -1,6 +1,6 @@
 -- `hope::hopeful` meets its contract: node by node; the rows only fall, and bound every way on.
 use mathlib.Core.Bool.{true≢false}
-use mathlib.Core.Path.{_≡_, sym, ap, _∙_}
+use mathlib.Core.Path.{sym, ap, _∙_}
 use Prim.Native.Nat.{ℕ, _*_, _-_, _≤_, _<_}
 use native.Mathlib.Omega.{arith}
 use Rattle.flags.specs.Flag.{put, either, less}

@@ -1,14 +1,13 @@
 -- `hope::lower` meets its contract: node by node.
 use mathlib.Core.Bool.{true≢false}
-use mathlib.Core.List.{List, []}
+use mathlib.Core.List.{[]}
 use mathlib.Core.Logic.{⊎-elim}
-use mathlib.Core.Path.{_≡_, sym, ap, subst, _∙_}
-use Prim.Native.Nat.{ℕ, _-_, _<_}
+use mathlib.Core.Path.{_≡_, sym, _∙_}
+use Prim.Native.Nat.{_-_}
 use native.Mathlib.Omega.{arith}
 use lib.Count.{ones}
-use lib.ListN.{getD, set}
+use lib.ListN.{getD}
 use borrow.Author.Tests.{not-true, not-false}
-use Rattle.flags.specs.Flag.{put, both}
 use Rattle.graph.specs.Limits.{most-nodes}
 use Rattle.sets.specs.Whole.{whole, rows, Lowest}
 use Rattle.sets.proofs.Rows.{row-at, rows-set}

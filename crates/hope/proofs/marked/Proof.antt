@@ -1,5 +1,5 @@
 -- `hope::marked` meets its contract.
-use mathlib.Core.Path.{_≡_, sym, ap, _∙_}
+use mathlib.Core.Path.{sym, ap, _∙_}
 use Rattle.flags.specs.Flag.{either}
 use Rattle.sets.specs.Whole.{whole, rows}
 use Rattle.sets.proofs.Rows.{row-at}

@@ -21,33 +21,6 @@ abbrev μ-loop : tie.MeasureT-loop
 loop-holds : tie.Need-loop-holds Inv-loop μ-loop
 loop-holds c = (search needs, refl, made-none both (c .args .t1) (c .args .t2) (replicate words 0))
 
-mul-both : tie.Need-mul-both Inv-loop μ-loop
-mul-both c = search needs
-
-array-read-both : tie.Need-array-read-both Inv-loop μ-loop
-array-read-both c = search needs
-
-mul-both-2 : tie.Need-mul-both-2 Inv-loop μ-loop
-mul-both-2 c = search needs
-
-array-read-both-2 : tie.Need-array-read-both-2 Inv-loop μ-loop
-array-read-both-2 c = search needs
-
-both-requires : tie.Need-both-requires Inv-loop μ-loop
-both-requires c κs = search needs
-
-mul-r : tie.Need-mul-r Inv-loop μ-loop
-mul-r c = search needs
-
-array-write-r : tie.Need-array-write-r Inv-loop μ-loop
-array-write-r c = search needs
-
-add-i : tie.Need-add-i Inv-loop μ-loop
-add-i c = search needs
-
-loop-less : tie.Need-loop-less Inv-loop μ-loop
-loop-less c = search needs
-
 loop-again : tie.Need-loop-again Inv-loop μ-loop
 loop-again c =
     let s = c .before .before .before .args in
@@ -72,14 +45,14 @@ both-spec =
     Inv-loop
     μ-loop
     loop-holds
-    mul-both
-    array-read-both
-    mul-both-2
-    array-read-both-2
-    both-requires
-    mul-r
-    array-write-r
-    add-i
-    loop-less
+    (λ c. search needs)  -- mul-both
+    (λ c. search needs)  -- array-read-both
+    (λ c. search needs)  -- mul-both-2
+    (λ c. search needs)  -- array-read-both-2
+    (λ c κs. search needs)  -- both-requires
+    (λ c. search needs)  -- mul-r
+    (λ c. search needs)  -- array-write-r
+    (λ c. search needs)  -- add-i
+    (λ c. search needs)  -- loop-less
     loop-again
     returns)

@@ -21,33 +21,6 @@ abbrev μ-loop : tie.MeasureT-loop
 loop-holds : tie.Need-loop-holds Inv-loop μ-loop
 loop-holds c = (search needs, refl, made-none either (c .args .t1) (c .args .t2) (replicate words 0))
 
-mul-either : tie.Need-mul-either Inv-loop μ-loop
-mul-either c = search needs
-
-array-read-either : tie.Need-array-read-either Inv-loop μ-loop
-array-read-either c = search needs
-
-mul-either-2 : tie.Need-mul-either-2 Inv-loop μ-loop
-mul-either-2 c = search needs
-
-array-read-either-2 : tie.Need-array-read-either-2 Inv-loop μ-loop
-array-read-either-2 c = search needs
-
-either-requires : tie.Need-either-requires Inv-loop μ-loop
-either-requires c κs = search needs
-
-mul-r : tie.Need-mul-r Inv-loop μ-loop
-mul-r c = search needs
-
-array-write-r : tie.Need-array-write-r Inv-loop μ-loop
-array-write-r c = search needs
-
-add-i : tie.Need-add-i Inv-loop μ-loop
-add-i c = search needs
-
-loop-less : tie.Need-loop-less Inv-loop μ-loop
-loop-less c = search needs
-
 loop-again : tie.Need-loop-again Inv-loop μ-loop
 loop-again c =
     let s = c .before .before .before .args in
@@ -72,14 +45,14 @@ either-spec =
     Inv-loop
     μ-loop
     loop-holds
-    mul-either
-    array-read-either
-    mul-either-2
-    array-read-either-2
-    either-requires
-    mul-r
-    array-write-r
-    add-i
-    loop-less
+    (λ c. search needs)  -- mul-either
+    (λ c. search needs)  -- array-read-either
+    (λ c. search needs)  -- mul-either-2
+    (λ c. search needs)  -- array-read-either-2
+    (λ c κs. search needs)  -- either-requires
+    (λ c. search needs)  -- mul-r
+    (λ c. search needs)  -- array-write-r
+    (λ c. search needs)  -- add-i
+    (λ c. search needs)  -- loop-less
     loop-again
     returns)

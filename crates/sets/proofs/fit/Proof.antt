@@ -1,5 +1,4 @@
 -- `sets::fit` meets its contract: an array has its length, and a word its digits.
-use Prim.Native.Nat.{ℕ}
 use lib.ListN.{getD}
 use mir.Val.{Fits}
 use mir.Syntax.{w64}

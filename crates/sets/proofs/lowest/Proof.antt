@@ -1,12 +1,12 @@
 -- `sets::lowest` meets its contract: word by word.
 use mathlib.Core.Path.{_≡_, sym, _∙_}
-use Prim.Native.Nat.{_-_, _≤_, _<_}
+use Prim.Native.Nat.{_-_, _≤_}
 use native.Mathlib.Omega.{arith}
-use lib.ListN.{length, getD}
+use lib.ListN.{getD}
 use mir.Val.{Fits}
 use mir.Syntax.{w64}
 use borrow.Author.Needs.{needs}
-use Rattle.flags.specs.Flag.{less, lowest}
+use Rattle.flags.specs.Flag.{lowest}
 use Rattle.flags.proofs.Least.{lowest-lt}
 use Rattle.sets.specs.Whole.{words, Small}
 use Rattle.sets.proofs.Leading.{Spent, spent-none, spent-more, leads-at, leads-all}
@@ -27,27 +27,6 @@ loop-holds c =
     let smallB : Small b = λ i. let f : Fits w64 (getD b i 0) = search needs in f .fits in
     (search needs, smallA, smallB, spent-none a b smallA smallB)
 
-mul-without : tie.Need-mul-without Inv-loop μ-loop
-mul-without c = search needs
-
-array-read-without : tie.Need-array-read-without Inv-loop μ-loop
-array-read-without c = search needs
-
-mul-without-2 : tie.Need-mul-without-2 Inv-loop μ-loop
-mul-without-2 c = search needs
-
-array-read-without-2 : tie.Need-array-read-without-2 Inv-loop μ-loop
-array-read-without-2 c = search needs
-
-without-requires : tie.Need-without-requires Inv-loop μ-loop
-without-requires c κs = search needs
-
-mul-result : tie.Need-mul-result Inv-loop μ-loop
-mul-result c = search needs
-
-lowest-requires : tie.Need-lowest-requires Inv-loop μ-loop
-lowest-requires c κs = search needs
-
 add-result : tie.Need-add-result Inv-loop μ-loop
 add-result c =
     let w = c .before .before in
@@ -63,21 +42,12 @@ returns c =
     let d : lowest (w .without .result) ≡ c .lowest .result = sym (c .lowest .ensures) in
     rw (← d, e) (leads-at (s .t1) (s .t2) (l .inv .1) (l .inv .2) (l .i) (rw e at (w .without .ok)) (rw e at (c .before .if1 .taken)) (w .before .loop-test .taken) (l .inv .3))
 
-add-i : tie.Need-add-i Inv-loop μ-loop
-add-i c = search needs
-
-loop-less : tie.Need-loop-less Inv-loop μ-loop
-loop-less c = search needs
-
 loop-again : tie.Need-loop-again Inv-loop μ-loop
 loop-again c =
     let w = c .before in
     let l = w .before .before .loop in
     let s = w .before .before .before .args in
     (search needs, l .inv .1, l .inv .2, spent-more (s .t1) (s .t2) (l .inv .1) (l .inv .2) (l .i) (sym (w .without .ensures) ∙ c .if1 .left) (l .inv .3))
-
-mul-result-2 : tie.Need-mul-result-2 Inv-loop μ-loop
-mul-result-2 c = search needs
 
 returns-2 : tie.Need-returns-2 Inv-loop μ-loop
 returns-2 c =
@@ -93,17 +63,17 @@ lowest-spec =
     Inv-loop
     μ-loop
     loop-holds
-    mul-without
-    array-read-without
-    mul-without-2
-    array-read-without-2
-    without-requires
-    mul-result
-    lowest-requires
+    (λ c. search needs)  -- mul-without
+    (λ c. search needs)  -- array-read-without
+    (λ c. search needs)  -- mul-without-2
+    (λ c. search needs)  -- array-read-without-2
+    (λ c κs. search needs)  -- without-requires
+    (λ c. search needs)  -- mul-result
+    (λ c κs. search needs)  -- lowest-requires
     add-result
     returns
-    add-i
-    loop-less
+    (λ c. search needs)  -- add-i
+    (λ c. search needs)  -- loop-less
     loop-again
-    mul-result-2
+    (λ c. search needs)  -- mul-result-2
     returns-2)

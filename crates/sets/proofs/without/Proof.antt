@@ -21,33 +21,6 @@ abbrev μ-loop : tie.MeasureT-loop
 loop-holds : tie.Need-loop-holds Inv-loop μ-loop
 loop-holds c = (search needs, refl, made-none less (c .args .t1) (c .args .t2) (replicate words 0))
 
-mul-without : tie.Need-mul-without Inv-loop μ-loop
-mul-without c = search needs
-
-array-read-without : tie.Need-array-read-without Inv-loop μ-loop
-array-read-without c = search needs
-
-mul-without-2 : tie.Need-mul-without-2 Inv-loop μ-loop
-mul-without-2 c = search needs
-
-array-read-without-2 : tie.Need-array-read-without-2 Inv-loop μ-loop
-array-read-without-2 c = search needs
-
-without-requires : tie.Need-without-requires Inv-loop μ-loop
-without-requires c κs = search needs
-
-mul-r : tie.Need-mul-r Inv-loop μ-loop
-mul-r c = search needs
-
-array-write-r : tie.Need-array-write-r Inv-loop μ-loop
-array-write-r c = search needs
-
-add-i : tie.Need-add-i Inv-loop μ-loop
-add-i c = search needs
-
-loop-less : tie.Need-loop-less Inv-loop μ-loop
-loop-less c = search needs
-
 loop-again : tie.Need-loop-again Inv-loop μ-loop
 loop-again c =
     let s = c .before .before .before .args in
@@ -72,14 +45,14 @@ without-spec =
     Inv-loop
     μ-loop
     loop-holds
-    mul-without
-    array-read-without
-    mul-without-2
-    array-read-without-2
-    without-requires
-    mul-r
-    array-write-r
-    add-i
-    loop-less
+    (λ c. search needs)  -- mul-without
+    (λ c. search needs)  -- array-read-without
+    (λ c. search needs)  -- mul-without-2
+    (λ c. search needs)  -- array-read-without-2
+    (λ c κs. search needs)  -- without-requires
+    (λ c. search needs)  -- mul-r
+    (λ c. search needs)  -- array-write-r
+    (λ c. search needs)  -- add-i
+    (λ c. search needs)  -- loop-less
     loop-again
     returns)

@@ -1,6 +1,6 @@
 -- `words::addressed` meets its contract: by the label.
-use mathlib.Core.Path.{_≡_, sym, ap, _∙_}
-use Rattle.words.specs.Rows.{matchb, addressedb, nearb, namesb, part}
+use mathlib.Core.Path.{sym, ap}
+use Rattle.words.specs.Rows.{addressedb}
 use borrow.Author.Needs.{needs}
 use Rattle.words.proofs.addressed.Statement.{statement}
 use Rattle.words.proofs.addressed.Tie as tie

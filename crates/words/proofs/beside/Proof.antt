@@ -5,11 +5,10 @@ use mathlib.Core.Path.{_≡_, sym, ap, _∙_}
 use Prim.Native.Nat.{ℕ, _-_, _≤_}
 use native.Mathlib.Omega.{arith}
 use Rattle.graph.specs.declared.Node.{Node}
-use Rattle.graph.specs.Fit.{wantOf}
 use Rattle.graph.proofs.Counted.{getD-any}
 use Rattle.sets.specs.Whole.{whole}
 use Rattle.words.specs.Words.{labelAt}
-use Rattle.words.specs.Rows.{matchb, nearb}
+use Rattle.words.specs.Rows.{nearb}
 use Rattle.words.proofs.Fill.{Gathered, gathered-none, gathered-put, gathered-skip}
 use borrow.Author.Needs.{needs}
 use Rattle.words.proofs.beside.Statement.{statement}
@@ -21,29 +20,8 @@ Inv-loop n l nodes set₀ q₀ set q = (q ≤ n) × Gathered (λ (k : ℕ). near
 abbrev μ-loop : tie.MeasureT-loop
 μ-loop n l nodes set₀ q₀ set q = n - q
 
-none-requires : tie.Need-none-requires Inv-loop μ-loop
-none-requires c κs = search needs
-
 loop-holds : tie.Need-loop-holds Inv-loop μ-loop
 loop-holds c = (search needs, rw (c .none .ensures) (gathered-none _))
-
-mul-node : tie.Need-mul-node Inv-loop μ-loop
-mul-node c = search needs
-
-array-copy-out-node : tie.Need-array-copy-out-node Inv-loop μ-loop
-array-copy-out-node c = search needs
-
-near-requires : tie.Need-near-requires Inv-loop μ-loop
-near-requires c κs = search needs
-
-with-requires : tie.Need-with-requires Inv-loop μ-loop
-with-requires c κs = search needs
-
-add-q : tie.Need-add-q Inv-loop μ-loop
-add-q c = search needs
-
-loop-less : tie.Need-loop-less Inv-loop μ-loop
-loop-less c = search needs
 
 loop-again : tie.Need-loop-again Inv-loop μ-loop
 loop-again c =
@@ -70,13 +48,13 @@ beside-spec =
     (tie.spec
     Inv-loop
     μ-loop
-    none-requires
+    (λ c κs. search needs)  -- none-requires
     loop-holds
-    mul-node
-    array-copy-out-node
-    near-requires
-    with-requires
-    add-q
-    loop-less
+    (λ c. search needs)  -- mul-node
+    (λ c. search needs)  -- array-copy-out-node
+    (λ c κs. search needs)  -- near-requires
+    (λ c κs. search needs)  -- with-requires
+    (λ c. search needs)  -- add-q
+    (λ c. search needs)  -- loop-less
     loop-again
     returns)

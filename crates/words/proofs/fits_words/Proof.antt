@@ -1,6 +1,5 @@
 -- `words::fits_words` meets its contract: node by node.
 use mathlib.Core.Bool.{Bool, _&&_}
-use mathlib.Core.List.{List}
 use mathlib.Core.Path.{_≡_, refl, ap, subst⁻¹, _∙_}
 use Prim.Native.Nat.{ℕ, _-_, _≤_, _<_}
 use native.Mathlib.Omega.{arith}
@@ -24,35 +23,8 @@ Inv-loop n rules m nodes rights words₀ p₀ words p = (p ≤ n) × (length wor
 abbrev μ-loop : tie.MeasureT-loop
 μ-loop n rules m nodes rights words₀ p₀ words p = n - p
 
-rights-of-requires : tie.Need-rights-of-requires Inv-loop μ-loop
-rights-of-requires c κs = search needs
-
 loop-holds : tie.Need-loop-holds Inv-loop μ-loop
 loop-holds c = (search needs, refl, subst⁻¹ (Rows _ 0) (rows-none most-nodes) (rows-start _))
-
-mul-node : tie.Need-mul-node Inv-loop μ-loop
-mul-node c = search needs
-
-array-copy-out-node : tie.Need-array-copy-out-node Inv-loop μ-loop
-array-copy-out-node c = search needs
-
-beside-requires : tie.Need-beside-requires Inv-loop μ-loop
-beside-requires c κs = search needs
-
-row-of-requires : tie.Need-row-of-requires Inv-loop μ-loop
-row-of-requires c κs = search needs
-
-mul-words : tie.Need-mul-words Inv-loop μ-loop
-mul-words c = search needs
-
-array-set-from-words : tie.Need-array-set-from-words Inv-loop μ-loop
-array-set-from-words c = search needs
-
-add-p : tie.Need-add-p Inv-loop μ-loop
-add-p c = search needs
-
-loop-less : tie.Need-loop-less Inv-loop μ-loop
-loop-less c = search needs
 
 loop-again : tie.Need-loop-again Inv-loop μ-loop
 loop-again c =
@@ -83,15 +55,15 @@ fits-words-spec =
     (tie.spec
     Inv-loop
     μ-loop
-    rights-of-requires
+    (λ c κs. search needs)  -- rights-of-requires
     loop-holds
-    mul-node
-    array-copy-out-node
-    beside-requires
-    row-of-requires
-    mul-words
-    array-set-from-words
-    add-p
-    loop-less
+    (λ c. search needs)  -- mul-node
+    (λ c. search needs)  -- array-copy-out-node
+    (λ c κs. search needs)  -- beside-requires
+    (λ c κs. search needs)  -- row-of-requires
+    (λ c. search needs)  -- mul-words
+    (λ c. search needs)  -- array-set-from-words
+    (λ c. search needs)  -- add-p
+    (λ c. search needs)  -- loop-less
     loop-again
     returns)

@@ -1,5 +1,5 @@
 -- `words::fitted` meets its contract: by what the left side wants.
-use mathlib.Core.Path.{_≡_, sym, ap, _∙_}
+use mathlib.Core.Path.{sym, _∙_}
 use Rattle.sets.specs.Whole.{whole}
 use Rattle.graph.specs.Fit.{wantOf}
 use Rattle.words.proofs.Parts.{fitted-never, fitted-free, fitted-same, fitted-other}
@@ -7,26 +7,8 @@ use borrow.Author.Needs.{needs}
 use Rattle.words.proofs.fitted.Statement.{statement}
 use Rattle.words.proofs.fitted.Tie as tie
 
-wants-requires : tie.Need-wants-requires
-wants-requires c κs = search needs
-
 enum-told : tie.Need-enum-told
 enum-told c = search needs
-
-none-requires : tie.Need-none-requires
-none-requires c κs = search needs
-
-enum-told-2 : tie.Need-enum-told-2
-enum-told-2 c = search needs
-
-enum-known-x : tie.Need-enum-known-x
-enum-known-x c = search needs
-
-names-requires : tie.Need-names-requires
-names-requires c κs = search needs
-
-both-requires : tie.Need-both-requires
-both-requires c κs = search needs
 
 returns : tie.Need-returns
 returns c =
@@ -61,13 +43,13 @@ pub fitted-spec : {M : Type 1} → statement M
 fitted-spec =
     tie.close
     (tie.spec
-    wants-requires
+    (λ c κs. search needs)  -- wants-requires
     enum-told
-    none-requires
-    enum-told-2
-    enum-known-x
-    names-requires
-    both-requires
+    (λ c κs. search needs)  -- none-requires
+    (λ c. search needs)  -- enum-told-2
+    (λ c. search needs)  -- enum-known-x
+    (λ c κs. search needs)  -- names-requires
+    (λ c κs. search needs)  -- both-requires
     returns
     returns-2
     returns-3

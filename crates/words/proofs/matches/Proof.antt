@@ -1,6 +1,6 @@
 -- `words::matches` meets its contract: by what the side wants.
-use mathlib.Core.Path.{_≡_, sym, ap, _∙_}
-use Rattle.words.specs.Rows.{matchb, addressedb, nearb, namesb, part}
+use mathlib.Core.Path.{sym, ap, _∙_}
+use Rattle.words.specs.Rows.{matchb}
 use borrow.Author.Needs.{needs}
 use Rattle.words.proofs.matches.Statement.{statement}
 use Rattle.words.proofs.matches.Tie as tie

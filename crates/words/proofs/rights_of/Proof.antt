@@ -1,8 +1,7 @@
 -- `words::rights_of` meets its contract: rule by rule.
 use mathlib.Core.Bool.{_&&_}
-use mathlib.Core.List.{List}
 use mathlib.Core.Path.{_≡_, refl, ap, subst⁻¹, _∙_}
-use Prim.Native.Nat.{ℕ, _-_, _≤_, _<_}
+use Prim.Native.Nat.{_-_, _≤_, _<_}
 use native.Mathlib.Omega.{arith}
 use lib.Dec.{ltb}
 use lib.ListN.{length, replicate, length-set}
@@ -27,27 +26,6 @@ abbrev μ-loop : tie.MeasureT-loop
 
 loop-holds : tie.Need-loop-holds Inv-loop μ-loop
 loop-holds c = (search needs, refl, rights-none (c .args .nodes) (c .args .n) (c .args .t3) (rows (replicate most-rules (replicate 8 0))))
-
-mul-rule : tie.Need-mul-rule Inv-loop μ-loop
-mul-rule c = search needs
-
-array-copy-out-rule : tie.Need-array-copy-out-rule Inv-loop μ-loop
-array-copy-out-rule c = search needs
-
-matched-requires : tie.Need-matched-requires Inv-loop μ-loop
-matched-requires c κs = search needs
-
-mul-rights : tie.Need-mul-rights Inv-loop μ-loop
-mul-rights c = search needs
-
-array-set-from-rights : tie.Need-array-set-from-rights Inv-loop μ-loop
-array-set-from-rights c = search needs
-
-add-i : tie.Need-add-i Inv-loop μ-loop
-add-i c = search needs
-
-loop-less : tie.Need-loop-less Inv-loop μ-loop
-loop-less c = search needs
 
 loop-again : tie.Need-loop-again Inv-loop μ-loop
 loop-again c =
@@ -75,12 +53,12 @@ rights-of-spec =
     Inv-loop
     μ-loop
     loop-holds
-    mul-rule
-    array-copy-out-rule
-    matched-requires
-    mul-rights
-    array-set-from-rights
-    add-i
-    loop-less
+    (λ c. search needs)  -- mul-rule
+    (λ c. search needs)  -- array-copy-out-rule
+    (λ c κs. search needs)  -- matched-requires
+    (λ c. search needs)  -- mul-rights
+    (λ c. search needs)  -- array-set-from-rights
+    (λ c. search needs)  -- add-i
+    (λ c. search needs)  -- loop-less
     loop-again
     returns)

@@ -1,7 +1,7 @@
 -- `words::row_of` meets its contract: rule by rule.
 use mathlib.Core.Path.{_≡_, sym, ap, _∙_}
 use mathlib.Core.List.{[]}
-use Prim.Native.Nat.{ℕ, _-_, _≤_, _<_}
+use Prim.Native.Nat.{_-_, _≤_, _<_}
 use native.Mathlib.Omega.{arith}
 use lib.ListN.{length, getD}
 use Rattle.flags.specs.Flag.{flag}
@@ -22,37 +22,10 @@ Inv-loop rights m l close rules row₀ i₀ row i = (i ≤ m) × RowOf (rows rig
 abbrev μ-loop : tie.MeasureT-loop
 μ-loop rights m l close rules row₀ i₀ row i = m - i
 
-none-requires : tie.Need-none-requires Inv-loop μ-loop
-none-requires c κs = search needs
-
 loop-holds : tie.Need-loop-holds Inv-loop μ-loop
 loop-holds c =
     let s = c .before .args in
     (search needs, row-none (rows (s .rights .now)) (s .t2) (s .m) (s .l) (whole (s .close)) (whole (c .none .result)) (c .none .ensures))
-
-mul-rule : tie.Need-mul-rule Inv-loop μ-loop
-mul-rule c = search needs
-
-array-copy-out-rule : tie.Need-array-copy-out-rule Inv-loop μ-loop
-array-copy-out-rule c = search needs
-
-mul-right : tie.Need-mul-right Inv-loop μ-loop
-mul-right c = search needs
-
-element-copy-out-right : tie.Need-element-copy-out-right Inv-loop μ-loop
-element-copy-out-right c = search needs
-
-fitted-requires : tie.Need-fitted-requires Inv-loop μ-loop
-fitted-requires c κs = search needs
-
-either-requires : tie.Need-either-requires Inv-loop μ-loop
-either-requires c κs = search needs
-
-add-i : tie.Need-add-i Inv-loop μ-loop
-add-i c = search needs
-
-loop-less : tie.Need-loop-less Inv-loop μ-loop
-loop-less c = search needs
 
 loop-again : tie.Need-loop-again Inv-loop μ-loop
 loop-again c =
@@ -78,15 +51,15 @@ row-of-spec =
     (tie.spec
     Inv-loop
     μ-loop
-    none-requires
+    (λ c κs. search needs)  -- none-requires
     loop-holds
-    mul-rule
-    array-copy-out-rule
-    mul-right
-    element-copy-out-right
-    fitted-requires
-    either-requires
-    add-i
-    loop-less
+    (λ c. search needs)  -- mul-rule
+    (λ c. search needs)  -- array-copy-out-rule
+    (λ c. search needs)  -- mul-right
+    (λ c. search needs)  -- element-copy-out-right
+    (λ c κs. search needs)  -- fitted-requires
+    (λ c κs. search needs)  -- either-requires
+    (λ c. search needs)  -- add-i
+    (λ c. search needs)  -- loop-less
     loop-again
     returns)

@@ -1,6 +1,5 @@
 -- `words::succ_words` meets its contract: edge by edge.
-use mathlib.Core.List.{List}
-use mathlib.Core.Path.{_≡_, refl, sym, ap, subst, subst⁻¹, _∙_}
+use mathlib.Core.Path.{_≡_, refl, sym, ap, subst⁻¹, _∙_}
 use Prim.Native.Nat.{ℕ, _-_, _≤_, _<_}
 use native.Mathlib.Omega.{arith}
 use lib.ListN.{length, getD, set, length-set}
@@ -23,21 +22,6 @@ abbrev μ-loop : tie.MeasureT-loop
 loop-holds : tie.Need-loop-holds Inv-loop μ-loop
 loop-holds c = (search needs, refl, subst⁻¹ (Filled (c .args .t1) 0) (rows-none most-nodes) (filled-none (c .args .t1)))
 
-mul-e : tie.Need-mul-e Inv-loop μ-loop
-mul-e c = search needs
-
-array-copy-out-e : tie.Need-array-copy-out-e Inv-loop μ-loop
-array-copy-out-e c = search needs
-
-cast-from : tie.Need-cast-from Inv-loop μ-loop
-cast-from c = search needs
-
-cast-to : tie.Need-cast-to Inv-loop μ-loop
-cast-to c = search needs
-
-mul-row : tie.Need-mul-row Inv-loop μ-loop
-mul-row c = search needs
-
 array-copy-out-row : tie.Need-array-copy-out-row Inv-loop μ-loop
 array-copy-out-row c =
     let ends = c .before .before .before .before .before .pre .1 (c .before .before .before .before .loop .i) (c .before .before .before .loop-test .taken) in
@@ -48,19 +32,10 @@ with-requires c κs =
     let ends = c .before .before .before .before .before .before .pre .1 (c .before .before .before .before .before .loop .i) (c .before .before .before .before .loop-test .taken) in
     omega (arith, ends .0, ends .1)
 
-mul-words : tie.Need-mul-words Inv-loop μ-loop
-mul-words c = search needs
-
 array-set-from-words : tie.Need-array-set-from-words Inv-loop μ-loop
 array-set-from-words c =
     let ends = c .before .before .before .before .before .before .before .pre .1 (c .before .before .before .before .before .before .loop .i) (c .before .before .before .before .before .loop-test .taken) in
     omega (arith, ends .0, ends .1)
-
-add-i : tie.Need-add-i Inv-loop μ-loop
-add-i c = search needs
-
-loop-less : tie.Need-loop-less Inv-loop μ-loop
-loop-less c = search needs
 
 loop-again : tie.Need-loop-again Inv-loop μ-loop
 loop-again c =
@@ -87,16 +62,16 @@ succ-words-spec =
     Inv-loop
     μ-loop
     loop-holds
-    mul-e
-    array-copy-out-e
-    cast-from
-    cast-to
-    mul-row
+    (λ c. search needs)  -- mul-e
+    (λ c. search needs)  -- array-copy-out-e
+    (λ c. search needs)  -- cast-from
+    (λ c. search needs)  -- cast-to
+    (λ c. search needs)  -- mul-row
     array-copy-out-row
     with-requires
-    mul-words
+    (λ c. search needs)  -- mul-words
     array-set-from-words
-    add-i
-    loop-less
+    (λ c. search needs)  -- add-i
+    (λ c. search needs)  -- loop-less
     loop-again
     returns)

@@ -2,9 +2,7 @@
 use mathlib.Core.Bool.{true≢false}
 use mathlib.Core.Path.{sym, ap, _∙_}
 use Prim.Native.Nat.{ℕ, _-_, _≤_}
-use lib.ListN.{getD}
 use Rattle.flags.specs.Flag.{flag}
-use Rattle.sets.specs.Whole.{whole, rows}
 use Rattle.sets.proofs.Rows.{row-at}
 use borrow.Author.Needs.{needs}
 use Rattle.hope.proofs.pairs.known.Statement.{statement}
