@@ -46,11 +46,11 @@ cast-open-route-2 c = search needs
 
 open-route-requires : tie.Need-open-route-requires
 open-route-requires c κs =
-    let o = c .before .before .before .before in
+    let o = c .before .before .before .before .before in
     let e = o .before .before .before .before in
     let s = e .before .before in
     let ends = order-nodes (s .args .t1) (s .pre) (s .args .order) (s .args .route .now) (omega (arith, e .if1 .left)) in
-    (ends .0, ends .1, search needs)
+    (search needs, ends .0, ends .1)
 
 put-route-requires : tie.Need-put-route-requires
 put-route-requires c κs = search needs
@@ -62,7 +62,7 @@ returns-3 : tie.Need-returns-3
 returns-3 c =
     let p = c .before .before in
     let w = p .before .before .before in
-    let f = w .before .before .before .before .before .before in
+    let f = w .before .before .before .before .before .before .before in
     let u = f .before in
     let e2 = u .before in
     let e1 = e2 .before in
