@@ -1,7 +1,7 @@
 -- A flag is a digit of its word: when it is set, and where the digits end.
 -- Assumes nothing.
-use mathlib.Core.Bool.{true, false}
-use mathlib.Core.Path.{_≡_, sym, ap, _∙_, subst}
+use mathlib.Core.Bool.{Bool, true, false}
+use mathlib.Core.Path.{_≡_, refl, sym, ap, _∙_, subst}
 use Prim.Native.Nat.{ℕ, suc, _/_, _%_, _^_, _<_}
 use native.Mathlib.Decide.{decLt}
 use native.Mathlib.Nat.{lt-of-lt-of-le, div-one, mod-lt, div-eq-of-lt, zero-lt-suc}
@@ -10,6 +10,11 @@ use native.Mathlib.Omega.{arith}
 use lib.Pow.{pow-pos, pow-mono, shr-shr}
 use borrow.Author.Tests.{eq-eqb, ne-eqb, eqb-true, eqb-false}
 use Rattle.flags.specs.Flag.{digit, flag}
+
+-- what is not set is clear
+pub unset : {b : Bool} → (b ≡ true → ⊥) → b ≡ false
+unset {b = true} n = absurd (n refl)
+unset {b = false} n = refl
 
 pub digit-lt : (w k : ℕ) → digit w k < 2
 unfolding digit

@@ -10,11 +10,10 @@ use native.Mathlib.Omega.{arith}
 use lib.ListN.{List·getD-eq-default, length-set, length, getD, set}
 use lib.Seq.{getD-set-same, getD-set-other}
 use Rattle.flags.specs.Flag.{flag, put, either, both}
-use Rattle.flags.proofs.Digit.{flag-zero}
+use Rattle.flags.proofs.Digit.{unset, flag-zero}
 use Rattle.flags.proofs.Pair.{either-l, either-r, either-cases, both-true}
 use Rattle.flags.proofs.Put.{put-same, put-cases, put-keeps}
 use Rattle.hope.specs.Hope.{Inside, Lowered}
-use Rattle.hope.proofs.Rest.{unset}
 
 pub lowered-none : (l : List ℕ) (met m : ℕ) → Lowered l l met 0 m 0
 lowered-none l met m = record {

@@ -7,12 +7,12 @@ use mathlib.Core.Path.{_≡_, sym, ap, _∙_}
 use Prim.Native.Nat.{ℕ}
 use lib.ListN.{getD}
 use Rattle.flags.specs.Flag.{flag, put}
-use Rattle.flags.proofs.Digit.{flag-zero}
+use Rattle.flags.proofs.Digit.{unset, flag-zero}
 use Rattle.flags.proofs.Put.{put-cases, put-keeps}
 use Rattle.hope.specs.Rest.{Rest, ends, goes, Next, mark}
 use Rattle.hope.specs.Hope.{Into, Inside}
 use Rattle.words.specs.Words.{listed}
-use Rattle.hope.proofs.Rest.{unset, mark-grown, rest-new, rest-open, rest-live}
+use Rattle.hope.proofs.Rest.{mark-grown, rest-new, rest-open, rest-live}
 
 -- ---- the nodes that some rule fits with the goal
 

@@ -8,14 +8,13 @@ use Prim.Native.Nat.{ℕ}
 use native.Mathlib.Decide.{ℕ-discrete}
 use lib.ListN.{getD}
 use Rattle.flags.specs.Flag.{flag, put, either, both, less}
-use Rattle.flags.proofs.Digit.{flag-zero}
+use Rattle.flags.proofs.Digit.{unset, flag-zero}
 use Rattle.flags.proofs.Pair.{either-l, either-r, either-cases, both-true, less-in}
 use Rattle.flags.proofs.Put.{put-other}
 use Rattle.hope.specs.Rest.{Next, mark}
 use Rattle.hope.specs.Hope.{Inside, Lowered, Into}
 use Rattle.words.specs.Words.{listed}
 use Rattle.hope.proofs.Hope.{Below, no-next}
-use Rattle.hope.proofs.Rest.{unset}
 
 module _ (succ fits : List ℕ) (into visited : ℕ) where
   -- since `first` had the rows of the nodes in met₀, more nodes are met, and rows have only fallen

@@ -12,10 +12,6 @@ use Rattle.graph.specs.Cut.{First}
 use Rattle.hope.specs.Rest.{Rest, ends, goes, mark}
 use Rattle.words.specs.Words.{listed}
 
-pub unset : {b : Bool} → (b ≡ true → ⊥) → b ≡ false
-unset {b = true} n = absurd (n refl)
-unset {b = false} n = refl
-
 -- ---- `after` changes where v is in it, and only grows
 
 module _ (fits : List ℕ) (after v : ℕ) where

@@ -1,4 +1,4 @@
--- The pairs of a node and a word that ways on from a node come to, one after the other; and that nothing goes on where they are all looked at.
+-- The pairs of a node and a set that ways on from a node come to, one after the other; and that nothing goes on where they are all looked at.
 -- Assumes nothing.
 use mathlib.Core.Bool.{true, false, true≢false}
 use mathlib.Core.List.{List}
@@ -10,12 +10,13 @@ use native.Mathlib.Omega.{arith}
 use lib.ListN.{length, getD, set, length-set}
 use lib.Seq.{getD-set-same, getD-set-other}
 use Rattle.flags.specs.Flag.{flag, put}
+use Rattle.flags.proofs.Digit.{unset}
 use Rattle.flags.proofs.Put.{put-cases, put-keeps}
 use Rattle.graph.specs.Limits.{most-nodes}
 use Rattle.hope.specs.Rest.{Rest, ends, goes, Next, mark}
 use Rattle.hope.specs.Hope.{Inside, Known, most-pairs}
 use Rattle.words.specs.Words.{listed}
-use Rattle.hope.proofs.Rest.{unset, mark-grown, mark-same, rest-open}
+use Rattle.hope.proofs.Rest.{mark-grown, mark-same, rest-open}
 
 -- a way that goes on to y, w being ordered after the first then: it orders the goal, or a pair is known that it is no better than
 abbrev Covered : ℕ → List ℕ → List ℕ → ℕ → ℕ → ℕ → Type 0
@@ -140,7 +141,7 @@ module _ (succ fits : List ℕ) (goal visited after v : ℕ) where
     pub sifted-all : (l : List ℕ) → Next succ fits goal visited after v l → ⊥
     sifted-all l (k, s, t) = no-way {k = k} 0 (y .some) (λ x p. p) (λ x p. ap (λ (z : ℕ). flag z x) (sym (y .start .1)) ∙ p) (ap (λ (z : ℕ). listed succ z k) (y .start .0) ∙ s) t
 
--- while the ways on from pair i are looked at: `next` has the nodes that they go on to, and `before` is the word of the pair
+-- while the ways on from pair i are looked at: `next` has the nodes that they go on to, and `before` is the set of the pair
 pub record Going (succ fits : List ℕ) (goal visited after v : ℕ) (nodes words : List ℕ) (n i next before tried : ℕ) : Type 0 where
   pub within : i < n
   pub onto : next ≡ getD succ (getD nodes i 0) 0

@@ -9,16 +9,12 @@ use native.Mathlib.Omega.{arith}
 use lib.Count.{ones}
 use lib.ListN.{length, getD, List·getD-eq-default}
 use Rattle.flags.specs.Flag.{flag, put, less, lowest}
-use Rattle.flags.proofs.Digit.{flag-zero}
+use Rattle.flags.proofs.Digit.{unset, flag-zero}
 use Rattle.flags.proofs.Least.{lowest-set, lowest-first, lowest-lt}
 use Rattle.flags.proofs.Pair.{less-in, less-l, less-out}
 use Rattle.flags.proofs.Put.{put-count}
 use Rattle.sets.specs.Whole.{words, Small, whole, most, Lowest, Leads}
 use Rattle.sets.proofs.Words.{whole-flag, whole-at}
-
-pub unset : {b : Bool} → (b ≡ true → ⊥) → b ≡ false
-unset {b = true} n = absurd (n refl)
-unset {b = false} n = refl
 
 -- ---- one word
 

@@ -1,4 +1,4 @@
--- The two words that the walk carries stay right, step by step: the nodes on the route, and those that are ordered after the first if they come next.
+-- The two sets that the walk carries stay right, step by step: the nodes on the route, and those that are ordered after the first if they come next.
 -- Assumes nothing.
 use mathlib.Core.Bool.{Bool, true, false, true≢false}
 use mathlib.Core.List.{List, [], _∷_, _++_, append-assoc, append-ne-nil-of-right-ne-nil, cons-ne-nil, head-eq-of-cons-eq, tail-eq-of-cons-eq}
@@ -53,13 +53,13 @@ module _ (Fit : ℕ → ℕ → Type 0) where
           sort (inl (q, r)) = inr (subst (λ (l : List ℕ). Ordered Fit a l v) q (subst (Ordered Fit a before) r p), subst (λ (x : ℕ). Fit x k) r f)
           sort (inr (later, q)) = inl (by-way m before later q p (by-rule f))
 
--- ---- the words
+-- ---- the sets
 
 abbrev pub Lists : List ℕ → ℕ → ℕ → Type 0
 Lists words p q = listed words p q ≡ true
 
 module _ (fits : List ℕ) (a : ℕ) where
-  -- the two words are right for a route that has gone from a over `seen`; `path` has its nodes, in any order
+  -- the two sets are right for a route that has gone from a over `seen`; `path` has its nodes, in any order
   pub record Carried (path seen : List ℕ) (visited after : ℕ) : Type 0 where
     pub new : (k : ℕ) → flag visited k ≡ false → Absent k path
     pub old : (k : ℕ) → Absent k path → flag visited k ≡ false

@@ -22,7 +22,7 @@ use Rattle.walk.proofs.Carried.{Lists, carried-start}
 use Rattle.walk.proofs.Completeness.{found-or-ordered}
 use Rattle.walk.proofs.Soundness.{Onward, found-onward}
 
--- ---- from the words to the graph
+-- ---- from the tables to the graph
 
 follows-up : {S S′ : ℕ → ℕ → Type 0} → ((p q : ℕ) → S p q → S′ p q) → (a : ℕ) (between : List ℕ) (b : ℕ) → Follows S a between b → Follows S′ a between b
 follows-up up a [] b f = up a b f

@@ -9,6 +9,7 @@ use native.Mathlib.Decide.{decLt}
 use native.Mathlib.Omega.{arith}
 use lib.ListN.{getD}
 use Rattle.flags.specs.Flag.{flag, put}
+use Rattle.flags.proofs.Digit.{unset}
 use Rattle.flags.proofs.Put.{put-cases, put-keeps}
 use Rattle.graph.specs.Cut.{First}
 use Rattle.walk.specs.declared.Way.{Way}
@@ -16,7 +17,7 @@ use Rattle.hope.specs.Rest.{Rest, Next}
 use Rattle.walk.specs.Search.{Answer, none, found}
 use Rattle.words.specs.Words.{listed}
 use Rattle.sets.specs.Whole.{Lowest}
-use Rattle.hope.proofs.Rest.{unset, rest-new, rest-first}
+use Rattle.hope.proofs.Rest.{rest-new, rest-first}
 
 module _ (succ fits : List ℕ) (goal : ℕ) where
   -- the nodes on the route are tried, and no way goes on over a node that is

@@ -49,7 +49,7 @@ module _ (succ fits : List ℕ) (goal : ℕ) where
       least s (ends f g h) = absurd (n g)
       least s (goes {k = k} {l = l'} f g h t) = inr (refl, first .least l' (k, h, t))
 
-  -- the same in the code's terms: the words that it passes on are those
+  -- the same in the code's terms: the sets that it passes on are those
   pub passed-on : {visited after v vis aft n : ℕ} (nodes : List ℕ) (r : Way)
       → flag visited v ≡ false
       → (v ≡ goal → ⊥)

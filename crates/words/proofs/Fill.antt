@@ -1,4 +1,4 @@
--- Words filled one at a time: a word flag by flag, a list of words entry by entry, and edge by edge.
+-- Sets and tables filled one step at a time: a set number by number, a table row by row, and edge by edge.
 -- Assumes nothing.
 use mathlib.Core.Bool.{Bool, true, false, _&&_, and-false, true≢false}
 use mathlib.Core.List.{List}
@@ -26,7 +26,7 @@ ltb-same k i n = go (decLt k i)
     go (yes h) = lt-ltb k (i + 1) (omega arith) ∙ sym (lt-ltb k i h)
     go (no h) = le-ltb k (i + 1) (omega arith) ∙ sym (le-ltb k i (omega arith))
 
--- ---- a word of the numbers below i that a test passes
+-- ---- a set of the numbers below i that a test passes
 
 module _ (test : ℕ → Bool) where
   abbrev pub Gathered : ℕ → ℕ → Type 0
@@ -49,7 +49,7 @@ module _ (test : ℕ → Bool) where
       go (yes p) = rw p (g i ∙ ap (λ (b : Bool). b && test i) (le-ltb i i (omega arith)) ∙ sym (ap (λ (b : Bool). ltb i (i + 1) && b) e ∙ and-false (ltb i (i + 1))))
       go (no n) = g k ∙ sym (ap (λ (b : Bool). b && test k) (ltb-same k i n))
 
--- ---- a list of words, one for each number below i
+-- ---- a table, a row for each number below i
 
 zeros : (n q : ℕ) → getD {A = ℕ} (replicate n 0) q 0 ≡ 0
 zeros zero q = refl
@@ -73,7 +73,7 @@ module _ (test : ℕ → ℕ → Bool) where
       go (yes e) = rw e (ap (λ (x : ℕ). flag x q) (getD-set-same ws i w 0 h) ∙ f q ∙ sym (ap (λ (b : Bool). b && test i q) (lt-ltb i (i + 1) (omega arith))))
       go (no n) = ap (λ (x : ℕ). flag x q) (getD-set-other ws i p w 0 n) ∙ g p q ∙ sym (ap (λ (b : Bool). b && test p q) (ltb-same p i n))
 
--- ---- a list of words that has what the first i edges lead to
+-- ---- a table that has what the first i edges lead to
 
 module _ (edges : List Edge) where
   abbrev pub Filled : ℕ → List ℕ → Type 0

@@ -1,4 +1,4 @@
--- The words that are filled from a graph by value are the words of the graph that it holds.
+-- The tables that are filled from a graph by value are those of the graph that it holds.
 -- Assumes nothing.
 use mathlib.Core.Bool.{Bool, true, _&&_}
 use mathlib.Core.List.{List, [], _∷_}

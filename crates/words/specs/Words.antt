@@ -1,4 +1,4 @@
--- Which words are a graph's: for each node the nodes that a step leads to, and those that some rule fits with it.
+-- Which tables are a graph's: for each node a row with the nodes that a step leads to, and one with those that some rule fits with it.
 -- Assumes nothing.
 use mathlib.Core.Bool.{Bool, true, _&&_}
 use mathlib.Core.List.{List}
@@ -17,11 +17,11 @@ use Rattle.graph.specs.Fit.{Ruled, ruledb}
 use Rattle.graph.specs.Graph.{Graph, Sound, label, no-edge}
 use Rattle.graph.specs.Held.{Step}
 
--- q is in the word of p
+-- q is in the row of p
 abbrev pub listed : List ℕ → ℕ → ℕ → Bool
 listed words p q = flag (getD words p 0) q
 
--- the words of g without the edges in c, and of the rules
+-- the tables of g without the edges in c, and of the rules
 pub record WordsOf (g : Graph) (rules : List Rule) (c succ fits : List ℕ) : Type 0 where
   pub sound : Sound g
   pub steps : (p q : ℕ) → (listed succ p q ≡ true) ↔ Step g c p q
