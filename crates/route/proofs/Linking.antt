@@ -1,20 +1,20 @@
--- The lists of edges that end at the same node, one edge more at a time, from the last down.
+-- The lists of edges that end at the same node: made one edge more at a time, from the last down; gone through; those with nothing left.
 -- Assumes nothing.
 use mathlib.Core.List.{List}
 use mathlib.Core.Path.{_≡_, sym, ap, _∙_, subst, subst⁻¹}
 use Prim.Native.Nat.{ℕ, _+_, _<_, _≤_}
-use native.Mathlib.Decide.{ℕ-discrete}
+use native.Mathlib.Decide.{ℕ-discrete, decLt}
 use native.Mathlib.Omega.{arith}
 use lib.ListN.{length, getD, set, length-set}
 use lib.Seq.{getD-set-same, getD-set-other}
 use Rattle.graph.specs.Limits.{most-nodes, most-edges}
 use Rattle.graph.specs.Scan.{FirstFrom}
-use Rattle.graph.proofs.Scan.{passed-none, first-here, first-none, first-lower}
-use Rattle.route.specs.Way.{Linked}
+use Rattle.graph.proofs.Scan.{Passed, passed-none, passed-more, first-here, first-none, first-lower}
+use Rattle.route.specs.Way.{Linked, Remains, Sealed}
 
 module _ (to : List ℕ) where
   -- edge e ends at v
-  abbrev Into : ℕ → ℕ → Type 0
+  abbrev pub Into : ℕ → ℕ → Type 0
   Into v e = getD to e 0 ≡ v
 
   pub linked-none : (entries : List ℕ) → ((v : ℕ) → v < most-nodes → getD entries v 0 ≡ length to) → Linked to entries (length to)
@@ -52,3 +52,36 @@ module _ (to : List ℕ) where
           go (no p) =
               let q : getD (set mid v e) (most-nodes + x) 0 ≡ getD entries (most-nodes + x) 0 = getD-set-other mid v (most-nodes + x) e 0 (λ z. omega (arith, z)) ∙ getD-set-other entries (most-nodes + e) (most-nodes + x) (getD entries v 0) 0 (λ z. p (omega (arith, z))) in
               subst⁻¹ (FirstFrom (Into (getD to x 0)) (x + 1) (length to)) q (y .next x (omega (arith, p)) b)
+
+  module _ (links : List ℕ) (linked : Linked to links 0) (u e e′ : ℕ) where
+    pub first-into : u < most-nodes → e ≡ getD links u 0 → FirstFrom (Into u) 0 (length to) e
+    first-into h q = subst⁻¹ (FirstFrom (Into u) 0 (length to)) q (linked .first u h)
+
+    pub next-into : e < length to → getD to e 0 ≡ u → e′ ≡ getD links (most-nodes + e) 0 → FirstFrom (Into u) (e + 1) (length to) e′
+    next-into h p q = subst⁻¹ (FirstFrom (Into u) (e + 1) (length to)) q (subst (λ (v : ℕ). FirstFrom (Into v) (e + 1) (length to) (getD links (most-nodes + e) 0)) p (linked .next e (omega arith) h))
+
+-- e is the next edge that ends at u, and nothing is left of those before
+pub record Sealing (to left : List ℕ) (u e : ℕ) : Type 0 where
+  pub upto : e ≤ length to
+  pub ends : e < length to → getD to e 0 ≡ u
+  pub gone : Passed (λ x. Into to u x × Remains left x) 0 e
+
+module _ (to left : List ℕ) (u : ℕ) where
+  sealing-on : (lo e : ℕ) → FirstFrom (Into to u) lo (length to) e → Passed (λ x. Into to u x × Remains left x) 0 lo → Sealing to left u e
+  sealing-on lo e f g = record { upto = f .high; ends = f .here; gone = gone }
+    where
+      gone : Passed (λ x. Into to u x × Remains left x) 0 e
+      gone x a b p = go (decLt x lo)
+        where
+          go : Dec (x < lo) → ⊥
+          go (yes l) = g x a l p
+          go (no l) = f .none x (omega (arith, l)) b (p .0)
+
+  pub sealing-start : (e : ℕ) → FirstFrom (Into to u) 0 (length to) e → Sealing to left u e
+  sealing-start e f = sealing-on 0 e f (passed-none (λ x. Into to u x × Remains left x) 0)
+
+  pub sealing-next : (e e′ : ℕ) → Sealing to left u e → getD left e 0 ≡ 0 → FirstFrom (Into to u) (e + 1) (length to) e′ → Sealing to left u e′
+  sealing-next e e′ y z f = sealing-on (e + 1) e′ f (passed-more (λ x. Into to u x × Remains left x) 0 e (y .gone) (λ p. omega (arith, p .1, z)))
+
+  pub sealing-end : (e : ℕ) → Sealing to left u e → length to ≤ e → Sealed to left u
+  sealing-end e y l x h p o = y .gone x (omega arith) (omega (arith, h, l)) (p, o)

@@ -9,9 +9,11 @@ use native.Mathlib.Omega.{arith}
 use lib.ListN.{length, getD, set, length-set, replicate, getD-replicate}
 use lib.Seq.{getD-set-same, getD-set-other}
 use Rattle.graph.specs.Limits.{most-nodes}
-use Rattle.route.specs.Spread.{unseen, Back, Spread}
-use Rattle.route.specs.Way.{Net, Linked, Remains}
-use Rattle.route.proofs.Ways.{Shut, at-same, set-val, unseen-set}
+use Rattle.graph.specs.Scan.{FirstFrom}
+use Rattle.route.specs.Spread.{unseen, Back, Homeward, Spread}
+use Rattle.route.specs.Way.{Net, Linked, Way, Remains}
+use Rattle.route.proofs.Ways.{Shut, at-same, set-val, unseen-set, way-back}
+use Rattle.route.proofs.Linking.{Into, first-into, next-into}
 
 -- at the start no node but the goal is reached
 pub start-far : (dist : List ℕ) (goal a : ℕ) → dist ≡ set (replicate most-nodes 65535) goal 0 → a < most-nodes → a ≢ goal → 65535 ≤ getD dist a 0
@@ -75,13 +77,20 @@ module _ (from to left : List ℕ) (goal : ℕ) where
         split j x h a (no p) = inl (omega (arith, p))
 
     -- the last node of the queue
-    pub spread-shut : Net from to → count ≤ i → Shut from to left dist
+    spread-shut : Net from to → count ≤ i → Shut from to left dist
     spread-shut net l x h o s =
         let q = y .queued (getD to x 0) (net .head x h) s in
         y .done (q .0) x h o (sym (q .2)) (inl (omega (arith, q .1)))
 
+    -- nothing leads on to the nodes that are reached, and a is none of them
+    pub spread-none : Net from to → count ≤ i → (a : ℕ) → 65535 ≤ getD dist a 0 → (es : List ℕ) → Way from to (Remains left) a es goal → ⊥
+    spread-none net l a far es w = omega (arith, far, way-back from to left dist (spread-shut net l) a es goal w (omega (arith, y .aim)))
+
     pub spread-near : (v : ℕ) → v < most-nodes → getD dist v 0 < 65535 → getD dist v 0 < count
     spread-near v h l = ⊎-elim (λ a. absurd (omega (arith, a))) (λ a. a) (y .most v h)
+
+    pub spread-homeward : Homeward from to left goal dist via
+    spread-homeward = record { near = λ v h l. omega (arith, spread-near v h l, y .all); home = y .home; back = y .back }
 
     pub spread-seen : (v : ℕ) → v < most-nodes → getD dist v 0 ≢ 65535 → getD dist v 0 < 65535
     spread-seen v h f = ⊎-elim (λ z. absurd (f z)) (λ z. omega (arith, z, y .all)) (y .most v h)
@@ -184,11 +193,11 @@ module _ (from to links left : List ℕ) (goal : ℕ) (net : Net from to) (linke
 
     pub look-start : (e : ℕ) → Spread from to left goal dist via queue count i 0 → i < count → u ≡ getD queue i 0 → e ≡ getD links u 0 → Looking from to left goal i u (getD dist u 0) dist via queue count e
     look-start e y h p q =
-        let f = linked .first u (node-known 0 y h p) in
+        let f = first-into to links linked u e 0 (node-known 0 y h p) q in
         record {
-          upto = omega (arith, q, f .high, net .both);
-          ends = λ l. at-same to q ∙ f .here (omega (arith, q, l, net .both));
-          spread = spread-skip from to left goal dist via queue count i 0 y e (λ x a b z. f .none x a (omega (arith, b, q)) (z ∙ sym p));
+          upto = omega (arith, f .high, net .both);
+          ends = λ l. f .here (omega (arith, l, net .both));
+          spread = spread-skip from to left goal dist via queue count i 0 y e (λ x a b z. f .none x a b (z ∙ sym p));
           within = h;
           here = sym p;
           away = refl;
@@ -201,22 +210,25 @@ module _ (from to links left : List ℕ) (goal : ℕ) (net : Net from to) (linke
           let k = y .spread .known i (y .within) .1 in
           omega (arith, y .away, spread-near from to left goal dist via queue count i e (y .spread) u u64 (omega (arith, at-same dist (y .here), k)))
 
+      look-next : (e′ : ℕ) → e < length from → e′ ≡ getD links (most-nodes + e) 0 → FirstFrom (Into to u) (e + 1) (length to) e′
+      look-next e′ h q = next-into to links linked u e e′ (omega (arith, h, net .both)) (y .ends h) q
+
       -- one edge further, to the next that ends at u
       onward : (dist′ via′ queue′ : List ℕ) (count′ e′ : ℕ) → e < length from → e′ ≡ getD links (most-nodes + e) 0 → Spread from to left goal dist′ via′ queue′ count′ i (e + 1) → i < count′ → getD queue′ i 0 ≡ u → getD dist′ u 0 ≡ d
           → Looking from to left goal i u d dist′ via′ queue′ count′ e′
       onward dist′ via′ queue′ count′ e′ h q s w at away =
-          let f = linked .next e (omega arith) (omega (arith, h, net .both)) in
+          let f = look-next e′ h q in
           record {
-            upto = omega (arith, q, f .high, net .both);
-            ends = λ l. at-same to q ∙ f .here (omega (arith, q, l, net .both)) ∙ y .ends h;
-            spread = spread-skip from to left goal dist′ via′ queue′ count′ i (e + 1) s e′ (λ x a b z. f .none x a (omega (arith, b, q)) (z ∙ at ∙ sym (y .ends h)));
+            upto = omega (arith, f .high, net .both);
+            ends = λ l. f .here (omega (arith, l, net .both));
+            spread = spread-skip from to left goal dist′ via′ queue′ count′ i (e + 1) s e′ (λ x a b z. f .none x a b (z ∙ at));
             within = w;
             here = at;
             away = away;
           }
 
       pub look-less : (e′ : ℕ) → e < length from → e′ ≡ getD links (most-nodes + e) 0 → e < e′
-      look-less e′ h q = omega (arith, q, linked .next e (omega arith) (omega (arith, h, net .both)) .low)
+      look-less e′ h q = omega (arith, look-next e′ h q .low)
 
       pub look-pass : (e′ : ℕ) → e < length from → e′ ≡ getD links (most-nodes + e) 0 → (Remains left e → getD dist (getD from e 0) 0 < 65535) → Looking from to left goal i u d dist via queue count e′
       look-pass e′ h q f = onward dist via queue count e′ h q (spread-pass from to left goal dist via queue count i e (y .spread) f) (y .within) (y .here) (y .away)

@@ -2,18 +2,17 @@
 -- Assumes nothing.
 use mathlib.Core.Bool.{Bool, false}
 use mathlib.Core.List.{List, [], _∷_, _++_}
-use mathlib.Core.Logic.{⊎-elim, _≢_}
+use mathlib.Core.Logic.{_≢_}
 use mathlib.Core.Path.{_≡_, refl, sym, ap, _∙_, subst, subst⁻¹}
 use Prim.Native.Nat.{ℕ, _+_, _-_, _<_, _≤_}
 use native.Mathlib.Omega.{arith}
 use lib.ListN.{length, getD, set, length-set}
 use lib.Seq.{getD-set-same, getD-set-other}
 use borrow.Author.Count.{below-more}
-use Rattle.route.specs.declared.Route.{Route}
 use Rattle.graph.specs.Limits.{most-nodes}
-use Rattle.route.specs.Spread.{Back, Spread}
+use Rattle.route.specs.Spread.{Back, Homeward}
 use Rattle.route.specs.Way.{Net, Way, Out, Remains, Found}
-use Rattle.route.proofs.Ways.{Shut, way-back, way-on}
+use Rattle.route.proofs.Ways.{way-on}
 
 pub record Traced (from to left : List ℕ) (a : ℕ) (edges : List ℕ) (at i : ℕ) : Type 0 where
   pub long : length edges ≡ most-nodes
@@ -39,10 +38,7 @@ module _ (from to left : List ℕ) (a : ℕ) where
       new : getD (set edges i e) i 0 ≡ e
       new = getD-set-same edges i e 0 (omega (arith, r .long))
 
-module _ (from to left : List ℕ) (goal : ℕ) (net : Net from to) (dist via queue : List ℕ) (count j : ℕ) (y : Spread from to left goal dist via queue count j 0) where
-  pub trace-short : (a : ℕ) → a < most-nodes → getD dist a 0 < 65535 → getD dist a 0 < most-nodes
-  trace-short a h l = ⊎-elim (λ z. absurd (omega (arith, z))) (λ z. omega (arith, z, y .all)) (y .most a h)
-
+module _ (from to left : List ℕ) (goal : ℕ) (net : Net from to) (dist via : List ℕ) (y : Homeward from to left goal dist via) where
   module _ (a n at i : ℕ) (edges : List ℕ) (l : i < n) (n64 : n < most-nodes) (at64 : at < most-nodes) (sum : getD dist at 0 + i ≡ n) (e : ℕ) (p : e ≡ getD via at 0) where
     pub trace-edge : Back from to left dist at (n - (i + 1)) e
     trace-edge = subst⁻¹ (Back from to left dist at (n - (i + 1))) p (y .back at (n - (i + 1)) at64 (omega arith) (omega arith))
@@ -60,11 +56,11 @@ module _ (from to left : List ℕ) (goal : ℕ) (net : Net from to) (dist via qu
     way = λ z t f. let w = r .way t (λ k l. f k (omega arith)) in (w .0, subst (λ (x : ℕ). Way from to (Out t) a (w .0) x) (y .home at at64 (omega arith)) (w .1));
   }
 
--- no way: what is reached doesn't grow, and a is not reached
-pub none-found : (from to left dist : List ℕ) (a goal : ℕ) (r : Route) → Shut from to left dist → getD dist goal 0 ≡ 0 → 65535 ≤ getD dist a 0 → r .len ≡ 0 → Found from to left a goal r
-none-found from to left dist a goal r s g h z = record {
+-- no edge: there is no way
+pub none-found : (from to left : List ℕ) (a goal : ℕ) (edges : List ℕ) → ((es : List ℕ) → Way from to (Remains left) a es goal → ⊥) → Found from to left a goal (record { edges = edges; len = 0 })
+none-found from to left a goal edges f = record {
   short = omega arith;
-  none = λ q es w. omega (arith, h, way-back from to left dist s a es goal w (omega (arith, g)));
+  none = λ z. f;
   edge = λ k l. absurd (omega arith);
   way = λ l. absurd (omega arith);
 }

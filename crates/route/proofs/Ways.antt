@@ -13,7 +13,7 @@ use lib.Seq.{getD-set-same, getD-set-other}
 use borrow.Author.Tests.{ne-eqb}
 use Rattle.route.specs.Spread.{miss, unseen}
 use Rattle.graph.specs.Limits.{most-nodes, most-edges}
-use Rattle.route.specs.Way.{Net, Way, Remains}
+use Rattle.route.specs.Way.{Net, Way, Remains, Sealed}
 
 -- nothing leads on to the nodes that are reached
 abbrev pub Shut : List ℕ → List ℕ → List ℕ → List ℕ → Type 0
@@ -52,3 +52,8 @@ module _ (from to : List ℕ) where
   pub way-back : (left dist : List ℕ) → Shut from to left dist → (a : ℕ) (es : List ℕ) (b : ℕ) → Way from to (Remains left) a es b → getD dist b 0 < 65535 → getD dist a 0 < 65535
   way-back left dist s a [] b w h = subst⁻¹ (λ (x : ℕ). getD dist x 0 < 65535) w h
   way-back left dist s a (e ∷ es) b w h = subst (λ (x : ℕ). getD dist x 0 < 65535) (w .1) (s e (w .0) (w .2) (way-back left dist s (getD to e 0) es b (w .3) h))
+
+  -- where nothing is left of the edges that end at b, a way to b has no edge
+  pub way-sealed : (left : List ℕ) (b : ℕ) → length to ≡ length from → Sealed to left b → (a : ℕ) (es : List ℕ) → Way from to (Remains left) a es b → a ≡ b
+  way-sealed left b both s a [] w = w
+  way-sealed left b both s a (e ∷ es) w = absurd (s e (omega (arith, both, w .0)) (way-sealed left b both s (getD to e 0) es (w .3)) (w .2))

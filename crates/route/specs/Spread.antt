@@ -7,7 +7,6 @@ use mathlib.Core.Path.{_≡_}
 use Prim.Native.Nat.{ℕ, suc, _+_, _<_}
 use lib.Dec.{eqb}
 use lib.ListN.{length, getD}
-use Rattle.route.specs.declared.Reach.{Reach}
 use Rattle.graph.specs.Limits.{most-nodes}
 use Rattle.route.specs.Way.{Remains}
 
@@ -24,6 +23,12 @@ unseen (x ∷ l) = miss x + unseen l
 abbrev pub Back : List ℕ → List ℕ → List ℕ → List ℕ → ℕ → ℕ → ℕ → Type 0
 Back from to left dist v k x = (x < length from) × Remains left x × (getD from x 0 ≡ v) × (getD dist (getD to x 0) 0 ≡ k)
 
+-- a node that is reached is the goal, or goes on by an edge to one that is nearer
+pub record Homeward (from to left : List ℕ) (goal : ℕ) (dist via : List ℕ) : Type 0 where
+  pub near : (v : ℕ) → v < most-nodes → getD dist v 0 < 65535 → getD dist v 0 < most-nodes
+  pub home : (v : ℕ) → v < most-nodes → getD dist v 0 ≡ 0 → v ≡ goal
+  pub back : (v k : ℕ) → v < most-nodes → getD dist v 0 ≡ suc k → k < 65534 → Back from to left dist v k (getD via v 0)
+
 -- the nodes reached are the first `count` of the queue; an edge to one of the first i of them, or one of the first e edges to node i, starts at a node that is reached
 pub record Spread (from to left : List ℕ) (goal : ℕ) (dist via queue : List ℕ) (count i e : ℕ) : Type 0 where
   pub long : length dist ≡ most-nodes
@@ -37,7 +42,3 @@ pub record Spread (from to left : List ℕ) (goal : ℕ) (dist via queue : List 
   pub known : (j : ℕ) → j < count → (getD queue j 0 < most-nodes) × (getD dist (getD queue j 0) 0 < 65535)
   pub queued : (v : ℕ) → v < most-nodes → getD dist v 0 < 65535 → (j : ℕ) × (j < count) × (getD queue j 0 ≡ v)
   pub done : (j x : ℕ) → x < length from → Remains left x → getD to x 0 ≡ getD queue j 0 → (j < i) ⊎ ((j ≡ i) × (x < e)) → getD dist (getD from x 0) 0 < 65535
-
--- the edges to the first i nodes of the queue have been looked at
-abbrev pub Reached : List ℕ → List ℕ → List ℕ → ℕ → Reach → ℕ → Type 0
-Reached from to left goal r i = Spread from to left goal (r .dist) (r .via) (r .queue) (r .count) i 0

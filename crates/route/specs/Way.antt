@@ -34,6 +34,10 @@ Out t e = getD t e false ≡ false
 abbrev pub Remains : List ℕ → ℕ → Type 0
 Remains left e = 1 ≤ getD left e 0
 
+-- nothing is left of the edges that end at b
+abbrev pub Sealed : List ℕ → List ℕ → ℕ → Type 0
+Sealed to left b = (e : ℕ) → e < length to → getD to e 0 ≡ b → Remains left e → ⊥
+
 -- no way from a to b is left without the edges of t
 abbrev pub Parts : List ℕ → List ℕ → ℕ → ℕ → List Bool → Type 0
 Parts from to a b t = (es : List ℕ) → Way from to (Out t) a es b → ⊥

@@ -1,12 +1,13 @@
 // Finds a route with the fewest edges, node by node from its end.
 use graph::Graph;
+ghost use mathlib.Core.Bool.{false};
 ghost use mathlib.Core.Logic.{_≢_};
 ghost use mathlib.Core.Path.{_≡_};
 ghost use Prim.Native.Nat.{ℕ, _+_, _<_, _≤_};
-ghost use lib.ListN.{length, getD, set, replicate};
+ghost use lib.ListN.{length, getD};
 ghost use Rattle.graph.specs.Limits.{most-nodes, most-edges};
-ghost use Rattle.route.specs.Way.{Net, Linked, Found};
-ghost use Rattle.route.specs.Spread.{Reached};
+ghost use Rattle.route.specs.Way.{Net, Linked, Sealed, Found};
+ghost use Rattle.route.specs.Spread.{Homeward};
 
 // The edges that end at each node, as lists: an entry for each node has the first of them, and after these an entry for each edge has the
 // next one that ends where it does. The number of edges says that there is none.
@@ -18,14 +19,6 @@ pub struct Links {
 pub struct Route {
     pub edges: [u16; Graph::NODES],
     pub len: usize,
-}
-
-// How far each node is from the goal, 65535 where it is not reached; the edge that it goes on by; the nodes reached, in order, and how many.
-pub struct Reach {
-    pub dist: [u16; Graph::NODES],
-    pub via: [u16; Graph::NODES],
-    pub queue: [u16; Graph::NODES],
-    pub count: usize,
 }
 
 pub fn wide(x: u16) -> usize
@@ -53,64 +46,58 @@ pub fn link(to: &[u16]) -> Links
     l
 }
 
-// Only the goal is reached.
-fn start(goal: usize) -> Reach
-    requires { ⌜ goal < most-nodes ⌝ }
-    ensures { λ r. ⌜ (r .dist ≡ set (replicate most-nodes 65535) goal 0) × (r .queue ≡ set (replicate most-nodes 0) 0 goal) ⌝ }
-    ensures { λ r. ⌜ (length (r .via) ≡ most-nodes) × (r .count ≡ 1) ⌝ }
+// Whether something is left of an edge that ends at the goal.
+fn ends_left(
+    to: &[u16],
+    links: &[u16; Graph::NODES + Graph::EDGES],
+    left: &[u16; Graph::EDGES],
+    goal: usize,
+) -> bool
+    requires { ⌜ (length (now to) ≤ most-edges) × (goal < most-nodes) × Linked (now to) (now links) 0 ⌝ }
+    ensures { λ r. ⌜ (r ≡ false → Sealed (now (to .entry)) (now (left .entry)) goal) ⌝ }
 {
-    let mut dist = [65535u16; Graph::NODES];
-    dist[goal] = 0;
-    let mut queue = [0u16; Graph::NODES];
-    queue[0] = goal as u16;
-    Reach {
-        dist,
-        via: [0u16; Graph::NODES],
-        queue,
-        count: 1,
+    let n = to.len();
+    let mut e = wide(links[goal]);
+    while e < n {
+        if 0 < left[e] {
+            return true;
+        }
+        e = wide(links[Graph::NODES + e]);
     }
+    false
 }
 
-pub fn no_route() -> Route
-    ensures { λ r. ⌜ (r .len ≡ 0) × (length (r .edges) ≡ most-nodes) ⌝ }
-{
-    Route {
-        edges: [0u16; Graph::NODES],
-        len: 0,
-    }
-}
-
-// The route from a, by the edge that each node goes on by.
+// The route from a, by the edge that each node goes on by; how many edges it has.
 fn trace(
     from: &[u16],
     to: &[u16],
     left: &[u16; Graph::EDGES],
     a: usize,
     goal: usize,
-    r: Reach,
-    seen: usize,
-) -> Route
-    requires { ⌜ Net (now from) (now to) ⌝ }
-    requires { ⌜ (a < most-nodes) × (a ≢ goal) × (getD (r .dist) a 0 < 65535) ⌝ }
-    requires { ⌜ Reached (now from) (now to) (now left) goal r seen ⌝ }
-    ensures { λ o. ⌜ Found (now (from .entry)) (now (to .entry)) (now (left .entry)) a goal o ⌝ }
+    dist: &[u16; Graph::NODES],
+    via: &[u16; Graph::NODES],
+    out: &mut [u16; Graph::NODES],
+) -> usize
+    requires { ⌜ Net (now from) (now to) × Homeward (now from) (now to) (now left) goal (now dist) (now via) ⌝ }
+    requires { ⌜ (a < most-nodes) × (a ≢ goal) × (getD (now dist) a 0 < 65535) ⌝ }
+    requires { ⌜ length (now out) ≡ most-nodes ⌝ }
+    ensures { λ r. ⌜ (length (now (out .exit)) ≡ most-nodes) × Found (now (from .entry)) (now (to .entry)) (now (left .entry)) a goal (record { edges = now (out .exit); len = r }) ⌝ }
 {
-    let n = wide(r.dist[a]);
-    let mut o = no_route();
+    let n = wide(dist[a]);
     let mut at = a;
     let mut i = 0;
     while i < n {
-        let e = r.via[at];
-        o.edges[i] = e;
+        let e = via[at];
+        out[i] = e;
         at = wide(to[wide(e)]);
         i += 1;
     }
-    o.len = n;
-    o
+    n
 }
 
-// A route with the fewest edges from a to goal on which no edge is gone: an edge with nothing left is. Nodes are reached backwards, in the
-// order of their distance.
+// A route with the fewest edges from a to goal on which no edge is gone: an edge with nothing left is. Its edges are written to `out`; how
+// many they are is returned, 0 where there is no route. Nodes are reached backwards, in the order of their distance: `dist` is how far each
+// is from the goal, 65535 where it is not reached, `via` the edge that it goes on by; the first `count` of `queue` are the nodes reached.
 pub fn find_route(
     from: &[u16],
     to: &[u16],
@@ -118,36 +105,45 @@ pub fn find_route(
     left: &[u16; Graph::EDGES],
     a: usize,
     goal: usize,
-) -> Route
+    out: &mut [u16; Graph::NODES],
+) -> usize
     requires { ⌜ Net (now from) (now to) × Linked (now to) (now links) 0 ⌝ }
     requires { ⌜ (a < most-nodes) × (goal < most-nodes) × (a ≢ goal) ⌝ }
-    ensures { λ r. ⌜ Found (now (from .entry)) (now (to .entry)) (now (left .entry)) a goal r ⌝ }
+    requires { ⌜ length (now out) ≡ most-nodes ⌝ }
+    ensures { λ r. ⌜ (length (now (out .exit)) ≡ most-nodes) × Found (now (from .entry)) (now (to .entry)) (now (left .entry)) a goal (record { edges = now (out .exit); len = r }) ⌝ }
 {
+    if !ends_left(to, links, left, goal) {
+        return 0;
+    }
     let n = from.len();
-    let mut r = start(goal);
+    let mut dist = [65535u16; Graph::NODES];
+    dist[goal] = 0;
+    let mut via = [0u16; Graph::NODES];
+    let mut queue = [0u16; Graph::NODES];
+    queue[0] = goal as u16;
+    let mut count = 1;
     let mut i = 0;
-    while i < r.count {
-        let u = wide(r.queue[i]);
-        let d = r.dist[u];
+    while i < count {
+        let u = wide(queue[i]);
+        let d = dist[u];
         let mut e = wide(links[u]);
         while e < n {
             if left[e] != 0 {
                 let f = from[e];
                 let v = wide(f);
-                if r.dist[v] == 65535 {
-                    let k = r.count;
-                    r.dist[v] = d + 1;
-                    r.via[v] = e as u16;
-                    r.queue[k] = f;
-                    r.count = k + 1;
+                if dist[v] == 65535 {
+                    dist[v] = d + 1;
+                    via[v] = e as u16;
+                    queue[count] = f;
+                    count += 1;
                 }
             }
             e = wide(links[Graph::NODES + e]);
         }
         i += 1;
-        if r.dist[a] < 65535 {
-            return trace(from, to, left, a, goal, r, i);
+        if dist[a] < 65535 {
+            return trace(from, to, left, a, goal, &dist, &via, out);
         }
     }
-    no_route()
+    0
 }

@@ -4,17 +4,20 @@ use mathlib.Core.Path.{_≡_, refl, ap, _∙_}
 use Prim.Native.Nat.{ℕ, _+_, _-_, _<_, _≤_}
 use native.Mathlib.Omega.{arith}
 use lib.ListN.{getD}
-use borrow.Author.Needs.{needs}
 use Rattle.graph.specs.Limits.{most-nodes}
-use Rattle.route.proofs.Traced.{trace-short, trace-edge, trace-more, trace-end, Traced, traced-none}
+use Rattle.route.proofs.Traced.{trace-edge, trace-more, trace-end, Traced, traced-none}
+use borrow.Author.Needs.{needs}
 use Rattle.route.proofs.trace.Statement.{statement}
 use Rattle.route.proofs.trace.Tie as tie
 
 abbrev Inv-loop : tie.InvT-loop
-Inv-loop from to left a goal seen r n o₀ at₀ i₀ o at i = (i ≤ n) × (at < most-nodes) × (getD (r .dist) at 0 + i ≡ n) × (n < most-nodes) × Traced from to left a (o .edges) at i
+Inv-loop from to left a goal dist via out₀ n at₀ i₀ out at i = (i ≤ n) × (at < most-nodes) × (getD dist at 0 + i ≡ n) × (n < most-nodes) × Traced from to left a out at i
 
 abbrev μ-loop : tie.MeasureT-loop
-μ-loop from to left a goal seen r n o₀ at₀ i₀ o at i = n - i
+μ-loop from to left a goal dist via out₀ n at₀ i₀ out at i = n - i
+
+mul-wide : tie.Need-mul-wide Inv-loop μ-loop
+mul-wide c = search needs
 
 element-copy-out-wide : tie.Need-element-copy-out-wide Inv-loop μ-loop
 element-copy-out-wide c = search needs
@@ -22,28 +25,36 @@ element-copy-out-wide c = search needs
 wide-requires : tie.Need-wide-requires Inv-loop μ-loop
 wide-requires c κs = search needs
 
-no-route-requires : tie.Need-no-route-requires Inv-loop μ-loop
-no-route-requires c κs = search needs
-
 loop-holds : tie.Need-loop-holds Inv-loop μ-loop
-loop-holds c = let st = c .before .before .before .before .before in
-    let w = c .before .wide .ensures in
-    (omega arith, st .pre .1 .0 .0, omega (arith, w .0), omega (arith, w .0, trace-short _ _ _ _ (st .pre .0) _ _ _ _ _ (st .pre .1 .1) (st .args .a) (st .pre .1 .0 .0) (st .pre .1 .0 .2)), traced-none _ _ _ _ _ (c .no-route .ensures .1))
+loop-holds c =
+    let st = c .before .before .before .before in
+    let w = c .wide .ensures in
+    (omega arith, st .pre .1 .0 .0, omega (arith, w .0), omega (arith, w .0, st .pre .0 .1 .near _ (st .pre .1 .0 .0) (st .pre .1 .0 .2)), traced-none _ _ _ _ _ (st .pre .1 .1))
+
+mul-e : tie.Need-mul-e Inv-loop μ-loop
+mul-e c = search needs
 
 element-copy-out-e : tie.Need-element-copy-out-e Inv-loop μ-loop
 element-copy-out-e c = search needs
 
-element-write-o : tie.Need-element-write-o Inv-loop μ-loop
-element-write-o c = search needs
+mul-out : tie.Need-mul-out Inv-loop μ-loop
+mul-out c = search needs
+
+element-write-out : tie.Need-element-write-out Inv-loop μ-loop
+element-write-out c = search needs
 
 wide-requires-2 : tie.Need-wide-requires-2 Inv-loop μ-loop
 wide-requires-2 c κs = search needs
 
+mul-wide-2 : tie.Need-mul-wide-2 Inv-loop μ-loop
+mul-wide-2 c = search needs
+
 shared-slice-read-wide : tie.Need-shared-slice-read-wide Inv-loop μ-loop
-shared-slice-read-wide c = let l = c .before .before .before .before in
-    let st = l .before .before .before .before .before .before in
+shared-slice-read-wide c =
+    let l = c .before .before .before .before in
+    let st = l .before .before .before .before .before in
     let i = l .loop .inv in
-    omega (arith, st .pre .0 .both, trace-edge _ _ _ _ (st .pre .0) _ _ _ _ _ (st .pre .1 .1) (st .args .a) _ _ _ (l .loop .o .edges) (c .before .before .before .loop-test .taken) (i .3) (i .1) (i .2) _ (c .before .wide2 .ensures .0) .0)
+    omega (arith, st .pre .0 .0 .both, trace-edge _ _ _ _ (st .pre .0 .0) _ _ (st .pre .0 .1) (st .args .a) _ _ _ (l .loop .out) (c .before .before .before .loop-test .taken) (i .3) (i .1) (i .2) _ (c .before .wide2 .ensures .0) .0)
 
 wide-requires-3 : tie.Need-wide-requires-3 Inv-loop μ-loop
 wide-requires-3 c κs = search needs
@@ -55,28 +66,18 @@ loop-less : tie.Need-loop-less Inv-loop μ-loop
 loop-less c = search needs
 
 loop-again : tie.Need-loop-again Inv-loop μ-loop
-loop-again c = let l = c .before .before .before .before .before in
-    let st = l .before .before .before .before .before .before in
+loop-again c =
+    let l = c .before .before .before .before .before in
+    let st = l .before .before .before .before .before in
     let i = l .loop .inv in
-    trace-more _ _ _ _ (st .pre .0) _ _ _ _ _ (st .pre .1 .1) _ _ _ _ _ (c .before .before .before .before .loop-test .taken) (i .3) (i .1) (i .2) _ refl _ (c .wide3 .ensures .0 ∙ ap (λ (x : ℕ). getD (st .args .to .now) x 0) (c .before .before .wide2 .ensures .0)) (i .4)
+    trace-more _ _ _ _ (st .pre .0 .0) _ _ (st .pre .0 .1) _ _ _ _ _ (c .before .before .before .before .loop-test .taken) (i .3) (i .1) (i .2) _ refl _ (c .wide3 .ensures .0 ∙ ap (λ (x : ℕ). getD (st .args .to .now) x 0) (c .before .before .wide2 .ensures .0)) (i .4)
 
 returns : tie.Need-returns Inv-loop μ-loop
-returns c = let l = c .before in
-    let st = l .before .before .before .before .before .before in
+returns c =
+    let l = c .before in
+    let st = l .before .before .before .before .before in
     let i = l .loop .inv in
-    trace-end _ _ _ _ (st .pre .0) _ _ _ _ _ (st .pre .1 .1) _ _ _ _ _ (st .pre .1 .0 .0) (st .pre .1 .0 .1) (l .before .before .wide .ensures .0) (i .3) (i .1) (omega (arith, i .0, c .loop-test .left)) (i .2) (i .4)
-
-mul-wide : tie.Need-mul-wide Inv-loop μ-loop
-mul-wide c = search needs
-
-mul-e : tie.Need-mul-e Inv-loop μ-loop
-mul-e c = search needs
-
-mul-o : tie.Need-mul-o Inv-loop μ-loop
-mul-o c = search needs
-
-mul-wide-2 : tie.Need-mul-wide-2 Inv-loop μ-loop
-mul-wide-2 c = search needs
+    (i .4 .long, trace-end _ _ _ _ (st .pre .0 .0) _ _ (st .pre .0 .1) _ _ _ _ _ (st .pre .1 .0 .0) (st .pre .1 .0 .1) (l .before .wide .ensures .0) (i .3) (i .1) (omega (arith, i .0, c .loop-test .left)) (i .2) (i .4))
 
 pub trace-spec : {M : Type 1} → statement M
 trace-spec =
@@ -87,12 +88,11 @@ trace-spec =
     mul-wide
     element-copy-out-wide
     wide-requires
-    no-route-requires
     loop-holds
     mul-e
     element-copy-out-e
-    mul-o
-    element-write-o
+    mul-out
+    element-write-out
     wide-requires-2
     mul-wide-2
     shared-slice-read-wide
