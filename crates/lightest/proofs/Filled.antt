@@ -17,7 +17,7 @@ use Rattle.lightest.specs.Search.{Branch, Fair, Next, Unspent, Smallest,
 use Rattle.lightest.specs.Sets.{Has, weigh}
 use Rattle.graph.specs.Limits.{most-edges}
 use Rattle.route.specs.Way.{Way, Out, Remains, Parts, Found}
-use Rattle.graph.proofs.Splits.{bool, lt-or-ge}
+use Rattle.graph.proofs.Splits.{bool}
 use Rattle.lightest.proofs.Weights.{total-less, total-unspent}
 use Rattle.route.proofs.Ways.{at-same}
 
@@ -40,6 +40,13 @@ find-below p (suc n) = go (find-below p n) (bool (p n))
 way-map : (from to : List ℕ) (A B : ℕ → Type 0) → ((e : ℕ) → e < length from → A e → B e) → (a : ℕ) (es : List ℕ) (b : ℕ) → Way from to A a es b → Way from to B a es b
 way-map from to A B f a [] b w = w
 way-map from to A B f a (e ∷ es) b w = (w .0, w .1, f e (w .0) (w .2), way-map from to A B f (getD to e 0) es b (w .3))
+
+-- o is the first route that was found
+abbrev pub Earlier : Route → Route → Route → Type 0
+Earlier first r o = ((first .len ≡ 0) × (o ≡ r)) ⊎ ((0 < first .len) × (o ≡ first))
+
+pub route-same : {es es′ : List ℕ} {n n′ : ℕ} → es ≡ es′ → n ≡ n′ → _≡_ {A = Route} (record { edges = es; len = n }) (record { edges = es′; len = n′ })
+route-same p q = cc
 
 -- what is packed after the pairs before i
 pub record Filled (from to ws firsts seconds : List ℕ) (s : Cut) (left : List ℕ) (first : Route) (sum i : ℕ) : Type 0 where
@@ -102,27 +109,27 @@ module _ (from to links ws firsts seconds : List ℕ) (kn : Known from to links 
       }
 
       module _ (some : 0 < r .len) (q : ℕ) (sm : Smallest r left q) where
-        pub earlier-some : (o : Route) → (first .len ≡ 0 → o ≡ r) → (0 < first .len → o ≡ first) → 0 < o .len
-        earlier-some o o0 o1 = ⊎-elim (λ z. omega (arith, z, ap (λ (x : Route). x .len) (o1 z))) (λ z. let y : first .len ≡ 0 = omega (arith, z) in omega (arith, some, ap (λ (x : Route). x .len) (o0 y))) (lt-or-ge 0 (first .len))
+        -- the route that is kept
+        kept : (o : Route) → Earlier first r o → Fair o × (0 < o .len) × Next ws P (s .chosen) o
+        kept o = ⊎-elim (λ z. subst⁻¹ (λ (x : Route). Fair x × (0 < x .len) × Next ws P (s .chosen) x) (z .1) (fair-route left i a b l pa pb r fo, some, next-first left i a b l pa pb r fo (s .chosen) (f .none (z .0) .0) some))
+            (λ z. subst⁻¹ (λ (x : Route). Fair x × (0 < x .len) × Next ws P (s .chosen) x) (z .1) (f .fair, z .0, f .next (z .0)))
 
-        pub filled-more : (left′ : List ℕ) (o : Route) (w : ℕ) → Reduced r q left left′ → w ≡ q → (first .len ≡ 0 → o ≡ r) → (0 < first .len → o ≡ first) → Filled from to ws firsts seconds s left′ o (sum + w) i
-        filled-more left′ o w rd e o0 o1 = record {
+        pub earlier-some : (o : Route) → Earlier first r o → 0 < o .len
+        earlier-some o e = kept o e .1
+
+        pub filled-more : (left′ : List ℕ) (o : Route) (w : ℕ) → Reduced r q left left′ → w ≡ q → Earlier first r o → Filled from to ws firsts seconds s left′ o (sum + w) i
+        filled-more left′ o w rd e k = record {
           long = rd .long;
           packed = packed;
-          fair = go .0;
-          none = λ z. absurd (omega (arith, go .1, z));
-          next = λ h. go .2;
+          fair = kept o k .0;
+          none = λ z. absurd (omega (arith, kept o k .1, z));
+          next = λ h. kept o k .2;
         }
           where
             packed : (t : List Bool) → Branch ws P (s .chosen) t → s .weight + (sum + w) + weigh left′ t ≤ weigh ws t
             packed t br =
                 let m = meets left i a b l pa pb r fo some t (br .good) in
                 omega (arith, f .packed t br, total-less (λ i. getD left i 0) (λ i. getD left′ i 0) 0 t q (getD (r .edges) (m .0) 0) (getD (r .edges) (m .0) 0) (omega arith) (rd .down) (m .2) (rd .less (m .0) (m .1) (sm .under (m .0) (m .1))), e)
-
-            go : Fair o × (0 < o .len) × Next ws P (s .chosen) o
-            go = ⊎-elim (λ z. subst⁻¹ (λ (x : Route). Fair x × (0 < x .len) × Next ws P (s .chosen) x) (o1 z) (f .fair, z, f .next z))
-                (λ z. let y : first .len ≡ 0 = omega (arith, z) in subst⁻¹ (λ (x : Route). Fair x × (0 < x .len) × Next ws P (s .chosen) x) (o0 y) (fair-route left i a b l pa pb r fo, some, next-first left i a b l pa pb r fo (s .chosen) (f .none y .0) some))
-                (lt-or-ge 0 (first .len))
 
     pub filled-end : (left : List ℕ) (first : Route) (sum i : ℕ) → Filled from to ws firsts seconds s left first sum i → length firsts ≤ i → Bounded ws P s (record { route = first; left = left; sum = sum })
     filled-end left first sum i f l = record { fair = f .fair; packed = f .packed; none = λ z k h. f .none z .1 k (omega arith); next = f .next }

@@ -28,12 +28,12 @@ pub fn wider(x: u16) -> u32
     x as u32
 }
 
-// Edge i of a route.
-pub fn edge_at(route: Route, i: usize) -> usize
-    requires { ⌜ (i < route .len) × Fair route ⌝ }
-    ensures { λ r. ⌜ (r ≡ getD (route .edges) i 0) × (r < most-edges) ⌝ }
+// Edge i of a route of n.
+pub fn edge_at(edges: &[u16; Graph::NODES], n: usize, i: usize) -> usize
+    requires { ⌜ (i < n) × Fair (record { edges = now edges; len = n }) ⌝ }
+    ensures { λ r. ⌜ (r ≡ getD (now (edges .entry)) i 0) × (r < most-edges) ⌝ }
 {
-    wide(route.edges[i])
+    wide(edges[i])
 }
 
 // The weights, and 0 for an edge that s has.
@@ -56,16 +56,14 @@ fn unspent(ws: &[u16], s: Cut) -> Residue
 }
 
 // The least that is left of an edge of the route.
-fn smallest(route: Route, res: Residue) -> u16
-    requires { ⌜ Fair route ⌝ }
-    ensures { λ r. ⌜ Smallest route (res .left) r ⌝ }
+fn smallest(edges: &[u16; Graph::NODES], n: usize, left: &[u16; Graph::EDGES]) -> u16
+    requires { ⌜ Fair (record { edges = now edges; len = n }) ⌝ }
+    ensures { λ r. ⌜ Smallest (record { edges = now (edges .entry); len = n }) (now (left .entry)) r ⌝ }
 {
-    let n = route.len;
     let mut a: u16 = 65535;
     let mut i = 0;
     while i < n {
-        let e = edge_at(route, i);
-        let x = res.left[e];
+        let x = left[edge_at(edges, n, i)];
         if x < a {
             a = x;
         }
@@ -75,31 +73,21 @@ fn smallest(route: Route, res: Residue) -> u16
 }
 
 // What is left when the amount a goes along the route.
-fn reduce(route: Route, res: Residue, a: u16) -> Residue
-    requires { ⌜ Fair route ⌝ }
-    ensures { λ r. ⌜ Reduced route a (res .left) (r .left) ⌝ }
+fn reduce(edges: &[u16; Graph::NODES], n: usize, left: &mut [u16; Graph::EDGES], a: u16)
+    requires { ⌜ Fair (record { edges = now edges; len = n }) × (length (now left) ≡ most-edges) ⌝ }
+    ensures { λ _. ⌜ Reduced (record { edges = now (edges .entry); len = n }) a (now (left .entry)) (now (left .exit)) ⌝ }
 {
-    let n = route.len;
-    let mut r = res;
     let mut i = 0;
     while i < n {
-        let e = edge_at(route, i);
-        let x = r.left[e];
+        let e = edge_at(edges, n, i);
+        let x = left[e];
         if a <= x {
-            r.left[e] = x - a;
+            left[e] = x - a;
         } else {
-            r.left[e] = 0;
+            left[e] = 0;
         }
         i += 1;
     }
-    r
-}
-
-// The earlier route, if there was one.
-fn earlier(first: Route, r: Route) -> Route
-    ensures { λ o. ⌜ (first .len ≡ 0 → o ≡ r) × (0 < first .len → o ≡ first) ⌝ }
-{
-    if first.len == 0 { r } else { first }
 }
 
 // Packs routes of the pairs that s misses, each with the most that its edges have left, until they sum to more than the allowance or no route is left.
@@ -117,35 +105,39 @@ pub fn bound(
     requires { ⌜ (Made (now ws) s) × (s .weight + allowance < most-weight) ⌝ }
     ensures { λ r. ⌜ Bounded (now (ws .entry)) (Apart (now (from .entry)) (now (to .entry)) (now (firsts .entry)) (now (seconds .entry))) s r ⌝ }
 {
-    let mut res = unspent(ws, s);
-    let mut first = route::no_route();
+    let whole = unspent(ws, s);
+    let mut left = whole.left;
+    let mut first = [0u16; Graph::NODES];
+    let mut len = 0;
+    let mut way = [0u16; Graph::NODES];
     let mut sum: u32 = 0;
     let n = firsts.len();
     let mut i = 0;
     while i < n {
         let a = wide(firsts[i]);
         let b = wide(seconds[i]);
-        let r = route::find_route(from, to, links, &res.left, a, b);
-        if r.len == 0 {
+        let k = route::find_route(from, to, links, &left, a, b, &mut way);
+        if k == 0 {
             i += 1;
         } else {
-            first = earlier(first, r);
-            let q = smallest(r, res);
-            res = reduce(r, res, q);
+            if len == 0 {
+                first = way;
+                len = k;
+            }
+            let q = smallest(&way, k, &left);
+            reduce(&way, k, &mut left, q);
             sum += wider(q);
             if allowance < sum {
-                let left = res.left;
                 return Packing {
-                    route: first,
+                    route: Route { edges: first, len },
                     left,
                     sum,
                 };
             }
         }
     }
-    let left = res.left;
     Packing {
-        route: first,
+        route: Route { edges: first, len },
         left,
         sum,
     }

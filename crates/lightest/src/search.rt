@@ -38,8 +38,7 @@ fn least(
     if allowance < sum {
         return none;
     }
-    let route = b.route;
-    let n = route.len;
+    let n = b.route.len;
     if n == 0 {
         return Pick {
             found: true,
@@ -50,7 +49,7 @@ fn least(
     let mut rest = allowance;
     let mut i = 0;
     while i < n {
-        let e = edge_at(route, i);
+        let e = edge_at(&b.route.edges, n, i);
         let w = wider(ws[e]);
         if w <= rest {
             let larger = s.with_edge(e, w);

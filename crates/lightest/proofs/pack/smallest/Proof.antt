@@ -6,16 +6,19 @@ use Prim.Native.Nat.{ℕ, _-_, _<_, _≤_}
 use native.Mathlib.Omega.{arith}
 use lib.ListN.{getD}
 use borrow.Author.Count.{below-none}
-use borrow.Author.Needs.{needs}
 use Rattle.lightest.proofs.Residues.{under-more}
+use borrow.Author.Needs.{needs}
 use Rattle.lightest.proofs.pack.smallest.Statement.{statement}
 use Rattle.lightest.proofs.pack.smallest.Tie as tie
+use Rattle.lightest.proofs.pack.smallest.Reads as reads
+use Rattle.lightest.proofs.pack.smallest.Lts as lts
+use Rattle.lightest.proofs.pack.edge_at.Reads as edge-at-reads
 
 abbrev Inv-loop : tie.InvT-loop
-Inv-loop route res n a₀ i₀ a i = (i ≤ n) × ((k : ℕ) → k < i → a ≤ getD (res .left) (getD (route .edges) k 0) 0) × (((k : ℕ) → k < n → 1 ≤ getD (res .left) (getD (route .edges) k 0) 0) → 1 ≤ a)
+Inv-loop edges n left a₀ i₀ a i = (i ≤ n) × ((k : ℕ) → k < i → a ≤ getD left (getD edges k 0) 0) × (((k : ℕ) → k < n → 1 ≤ getD left (getD edges k 0) 0) → 1 ≤ a)
 
 abbrev μ-loop : tie.MeasureT-loop
-μ-loop route res n a₀ i₀ a i = n - i
+μ-loop edges n left a₀ i₀ a i = n - i
 
 loop-holds : tie.Need-loop-holds Inv-loop μ-loop
 loop-holds c = (omega arith, below-none _, λ f. omega arith)
@@ -36,14 +39,15 @@ loop-less : tie.Need-loop-less Inv-loop μ-loop
 loop-less c = search needs
 
 loop-again : tie.Need-loop-again Inv-loop μ-loop
-loop-again c = let g = c .before .before in
+loop-again c =
+    let g = c .before .before in
     let l = g .before .before in
-    let st = l .before in
+    let left = l .before .args .left .now in
     let i = l .loop .inv in
     let at = g .edge-at .ensures .0 in
     let lt = g .before .loop-test .taken in
-    let more = under-more (st .args .route .edges) (st .args .t2 .left) (l .loop .a) (c .if1 .a) (l .loop .i) (g .edge-at .result) at in
-    ⊎-elim (λ w. (omega arith, more (omega (arith, w .0 .taken, w .1)) (omega (arith, w .1)) (i .1), λ f. omega (arith, w .1, f (l .loop .i) lt, ap (λ (x : ℕ). getD (st .args .t2 .left) x 0) at)))
+    let more = under-more (l .before .args .edges .now) left (l .loop .a) (c .if1 .a) (l .loop .i) (g .edge-at .result) at in
+    ⊎-elim (λ w. (omega arith, more (omega (arith, w .0 .taken, w .1)) (omega (arith, w .1)) (i .1), λ f. omega (arith, w .1, f (l .loop .i) lt, ap (λ (x : ℕ). getD left x 0) at)))
     (λ w. (omega arith, more (omega (arith, w .1)) (omega (arith, w .0 .left, w .1)) (i .1), λ f. omega (arith, w .1, i .2 f)))
     (c .if1 .came)
 

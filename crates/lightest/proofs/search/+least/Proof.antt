@@ -37,10 +37,10 @@ abbrev least-below : ℕ → In 6 least-kinds.ps
 least-below t = and 6 least-kinds.ps (falls 6 least-kinds.ps _<_ μ-least t) least.Pre
 
 abbrev least-Inv-loop : least-lts.InvT-loop
-least-Inv-loop from to links ws firsts seconds s allowance sum route n best₀ rest₀ i₀ best rest i = (i ≤ n) × Tried ws (Apart from to firsts seconds) s allowance (route .edges) best rest i
+least-Inv-loop from to links ws firsts seconds s allowance b sum n best₀ rest₀ i₀ best rest i = (i ≤ n) × Tried ws (Apart from to firsts seconds) s allowance (b .route .edges) best rest i
 
 abbrev least-μ-loop : least-lts.MeasureT-loop
-least-μ-loop from to links ws firsts seconds s allowance sum route n best₀ rest₀ i₀ best rest i = n - i
+least-μ-loop from to links ws firsts seconds s allowance b sum n best₀ rest₀ i₀ best rest i = n - i
 
 abbrev calls : ℕ → least-lts.Claims
 calls t = (bound-reads.Asked, bound-reads.Learnt, edge-at-reads.Asked, edge-at-reads.Learnt, wider-reads.Asked, wider-reads.Learnt, with-edge-reads.Asked, with-edge-reads.Learnt, least-below t, least.Post, lighter-reads.Asked, lighter-reads.Learnt)
@@ -68,17 +68,20 @@ module _ (t : ℕ) where
     abbrev edge : least-lts.After-edge-at (calls t) (least-at t) least.Post least-Inv-loop least-μ-loop
     edge = w .before .before
 
+    abbrev round : least-lts.In-loop (calls t) (least-at t) least.Post least-Inv-loop least-μ-loop
+    round = edge .before .before .before
+
     abbrev turn : least-lts.At-loop (calls t) (least-at t) least.Post least-Inv-loop least-μ-loop
-    turn = edge .before .before
+    turn = round .before
 
     abbrev bound : least-lts.After-bound (calls t) (least-at t) least.Post least-Inv-loop least-μ-loop
-    bound = turn .before .before .before .before
+    bound = turn .before .before .before
 
     abbrev tried : Tried (ws bound) (P bound) (start bound .args .s) (start bound .args .allowance) (bound .bound .result .route .edges) (turn .loop .best) (turn .loop .rest) (turn .loop .i)
     tried = turn .loop .inv .1
 
     known : (edge .edge-at .result < length (ws bound)) × (1 ≤ getD (ws bound) (edge .edge-at .result) 0) × (getD (start bound .args .s .chosen) (edge .edge-at .result) false ≡ false)
-    known = let h = edge .before .loop-test .taken in next-edge (bound .bound .ensures .next (omega (arith, h))) _ _ h (edge .edge-at .ensures .0)
+    known = let h = round .loop-test .taken in next-edge (bound .bound .ensures .next (omega (arith, h))) _ _ h (edge .edge-at .ensures .0)
 
   least-bound-requires : least-lts.Need-bound-requires (calls t) (least-at t) least.Post least-Inv-loop least-μ-loop
   least-bound-requires c κs = search needs
@@ -87,21 +90,21 @@ module _ (t : ℕ) where
   least-returns c = let b = c .before in pick-low _ _ (few b) _ (made b) _ (b .bound .result .left) _ (b .bound .ensures .packed) (c .if1 .taken)
 
   least-returns-2 : least-lts.Need-returns-2 (calls t) (least-at t) least.Post least-Inv-loop least-μ-loop
-  least-returns-2 c = let b = c .before .before .before in pick-leaf _ _ (few b) _ (made b) _ (b .bound .ensures .none (c .if2 .taken))
+  least-returns-2 c = let b = c .before .before in pick-leaf _ _ (few b) _ (made b) _ (b .bound .ensures .none (c .if2 .taken))
 
   least-loop-holds : least-lts.Need-loop-holds (calls t) (least-at t) least.Post least-Inv-loop least-μ-loop
-  least-loop-holds c = let b = c .before .before .before in (omega arith, tried-none _ _ (few b) _ (made b) _ _)
+  least-loop-holds c = let b = c .before .before in (omega arith, tried-none _ _ (few b) _ (made b) _ _)
 
   least-edge-at-requires : least-lts.Need-edge-at-requires (calls t) (least-at t) least.Post least-Inv-loop least-μ-loop
-  least-edge-at-requires c κs = let b = c .before .before .before .before .before in (c .loop-test .taken, b .bound .ensures .fair)
+  least-edge-at-requires c κs = let n = c .before .before in (n .loop-test .taken, n .before .before .before .before .bound .ensures .fair)
 
   least-mul-wider : least-lts.Need-mul-wider (calls t) (least-at t) least.Post least-Inv-loop least-μ-loop
   least-mul-wider c = search needs
 
   least-shared-slice-read-wider : least-lts.Need-shared-slice-read-wider (calls t) (least-at t) least.Post least-Inv-loop least-μ-loop
   least-shared-slice-read-wider c = let g = c .before in
-      let n = g .before in
-      next-edge (n .before .before .before .before .before .bound .ensures .next (omega (arith, n .loop-test .taken))) _ _ (n .loop-test .taken) (g .edge-at .ensures .0) .0
+      let n = g .before .before .before in
+      next-edge (n .before .before .before .before .bound .ensures .next (omega (arith, n .loop-test .taken))) _ _ (n .loop-test .taken) (g .edge-at .ensures .0) .0
 
   least-wider-requires : least-lts.Need-wider-requires (calls t) (least-at t) least.Post least-Inv-loop least-μ-loop
   least-wider-requires c κs = search needs
@@ -148,15 +151,15 @@ module _ (t : ℕ) where
   least-sub-rest c = omega (arith, up (c .before .before .before .before))
 
   least-add-i : least-lts.Need-add-i (calls t) (least-at t) least.Post least-Inv-loop least-μ-loop
-  least-add-i c = let w = c .before in record { fits = omega (arith, edge w .before .loop-test .taken, bound w .bound .ensures .fair .short) }
+  least-add-i c = let w = c .before in record { fits = omega (arith, round w .loop-test .taken, bound w .bound .ensures .fair .short) }
 
   least-loop-less : least-lts.Need-loop-less (calls t) (least-at t) least.Post least-Inv-loop least-μ-loop
-  least-loop-less c = omega (arith, edge (c .before) .before .loop-test .taken)
+  least-loop-less c = omega (arith, round (c .before) .loop-test .taken)
 
   least-loop-again : least-lts.Need-loop-again (calls t) (least-at t) least.Post least-Inv-loop least-μ-loop
   least-loop-again c = let w = c .before in
       let v = w .wider .ensures .0 in (
-        omega (arith, edge w .before .loop-test .taken),
+        omega (arith, round w .loop-test .taken),
         ⊎-elim (λ a. rw (a .9, a .10) (tried-hit _ _ (few (bound w)) _ (made (bound w)) _ _ _ _ _ (tried w) _ (edge w .edge-at .ensures .0) (known w .0) (known w .1) (known w .2) _ v (a .0 .taken) _ (a .1 .ensures .0) (a .1 .ensures .1) _ (a .2 .ensures) (a .3 .taken) _ _ (a .4 .ensures)
             (omega (arith, tried-up _ _ (few (bound w)) _ (made (bound w)) _ _ _ _ _ (tried w) _ (edge w .edge-at .ensures .0) (known w .0) (known w .1) (known w .2) _ v (a .0 .taken) _ (a .1 .ensures .0) (a .1 .ensures .1) _ (a .2 .ensures) (a .3 .taken) _ (a .4 .ensures)))))
             (⊎-elim (λ a. rw (a .4, a .5) (tried-miss _ _ (few (bound w)) _ (made (bound w)) _ _ _ _ _ (tried w) _ (edge w .edge-at .ensures .0) (known w .0) (known w .1) (known w .2) _ v (a .0 .taken) _ (a .1 .ensures .0) (a .1 .ensures .1) _ (a .2 .ensures) (a .3 .left)))
@@ -166,7 +169,7 @@ module _ (t : ℕ) where
 
   least-returns-4 : least-lts.Need-returns-4 (calls t) (least-at t) least.Post least-Inv-loop least-μ-loop
   least-returns-4 c = let l = c .before in
-      let b = l .before .before .before .before in
+      let b = l .before .before .before in
       let z : l .loop .i ≡ b .bound .result .route .len = omega (arith, l .loop .inv .0, c .loop-test .left) in
       pick-all _ _ (few b) _ (made b) _ (b .bound .result .route) _ _ (b .bound .ensures .next (pos-of-ne-zero (l .before .if2 .left))) (rw z at (l .loop .inv .1))
 
