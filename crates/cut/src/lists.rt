@@ -1,9 +1,8 @@
 // The edges of a graph, as the search reads them.
 ghost use mathlib.Core.Path.{_≡_};
-ghost use Prim.Native.Nat.{_<_, _≤_};
+ghost use Prim.Native.Nat.{_≤_};
 ghost use lib.ListN.{length};
 ghost use Rattle.graph.specs.Limits.{most-edges};
-ghost use Rattle.graph.specs.Value.{Ends};
 ghost use Rattle.cut.specs.Given.{Copied};
 use graph::Edge;
 use graph::Graph;
@@ -15,17 +14,9 @@ pub struct Lists {
     pub weights: [u16; Graph::EDGES],
 }
 
-// A node's number in a byte.
-pub fn narrow(x: u16) -> u16
-    requires { ⌜ x < 65536 ⌝ }
-    ensures { λ r. ⌜ r ≡ x ⌝ }
-{
-    x
-}
-
 // The first n edges. The array's length is told back: as a field of a graph it is not known.
 pub fn copied(edges: [Edge; Graph::EDGES], n: usize) -> Lists
-    requires { ⌜ (n ≤ most-edges) × Ends edges n ⌝ }
+    requires { ⌜ n ≤ most-edges ⌝ }
     ensures { λ r. ⌜ (length edges ≡ most-edges) × Copied edges (r .from) (r .to) (r .weights) n ⌝ }
 {
     let mut l = Lists {
@@ -36,8 +27,8 @@ pub fn copied(edges: [Edge; Graph::EDGES], n: usize) -> Lists
     let mut e = 0;
     while e < n {
         let x = edges[e];
-        l.from[e] = narrow(x.from);
-        l.to[e] = narrow(x.to);
+        l.from[e] = x.from;
+        l.to[e] = x.to;
         l.weights[e] = x.weight;
         e += 1;
     }

@@ -7,7 +7,6 @@ use Rattle.cut.specs.Given.{Gathered}
 use Rattle.graph.specs.Limits.{most-orders}
 use Rattle.route.specs.Way.{Net}
 use Rattle.route.proofs.Ways.{net-ends}
-use Rattle.graph.proofs.Counted.{all-ends, all-named}
 use Rattle.cut.proofs.Drawn.{lent}
 use Rattle.cut.proofs.Given.{given-differ, given-net, given-known, given-chosen}
 use Rattle.cut.proofs.chosen_cut.Statement.{statement}
@@ -42,10 +41,10 @@ module _ (c : tie.After-near-first) where
   few = start gathered .pre .0 .0 .orders
 
 copied-requires : tie.Need-copied-requires
-copied-requires c κs = let p = c .before .pre .0 in (p .0 .edges, all-ends _ (p .0) (p .1))
+copied-requires c κs = c .before .pre .0 .0 .edges
 
 gather-requires : tie.Need-gather-requires
-gather-requires c κs = let st = c .before .before .before .before .before .before in (st .pre .0 .0 .orders, all-named (st .args .g) _ (st .pre .0 .0 .nodes) (st .pre .1 .0))
+gather-requires c κs = c .before .before .before .before .before .before .pre .0 .0 .orders
 
 sub-link : tie.Need-sub-link
 sub-link c = search needs

@@ -3,9 +3,9 @@
 use mathlib.Core.Path.{_≡_, refl}
 use Prim.Native.Nat.{_≤_, _-_}
 use native.Mathlib.Omega.{arith}
-use borrow.Author.Needs.{needs}
 use Rattle.cut.specs.Given.{Copied}
 use Rattle.cut.proofs.Drawn.{copied-none, copied-more}
+use borrow.Author.Needs.{needs}
 use Rattle.cut.proofs.lists.copied.Statement.{statement}
 use Rattle.cut.proofs.lists.copied.Tie as tie
 
@@ -24,20 +24,20 @@ mul-x c = search needs
 array-copy-out-x : tie.Need-array-copy-out-x Inv-loop μ-loop
 array-copy-out-x c = search needs
 
-narrow-requires : tie.Need-narrow-requires Inv-loop μ-loop
-narrow-requires c κs = let l = c .before .before in omega (arith, l .before .pre .1 (l .loop .e) (c .before .loop-test .taken) .0)
+mul-l : tie.Need-mul-l Inv-loop μ-loop
+mul-l c = search needs
 
 element-write-l : tie.Need-element-write-l Inv-loop μ-loop
 element-write-l c = search needs
 
-narrow-requires-2 : tie.Need-narrow-requires-2 Inv-loop μ-loop
-narrow-requires-2 c κs = let l = c .before .before .before in omega (arith, l .before .pre .1 (l .loop .e) (c .before .before .loop-test .taken) .1)
+mul-l-2 : tie.Need-mul-l-2 Inv-loop μ-loop
+mul-l-2 c = search needs
 
 element-write-l-2 : tie.Need-element-write-l-2 Inv-loop μ-loop
 element-write-l-2 c = search needs
 
-mul-l : tie.Need-mul-l Inv-loop μ-loop
-mul-l c = search needs
+mul-l-3 : tie.Need-mul-l-3 Inv-loop μ-loop
+mul-l-3 c = search needs
 
 element-write-l-3 : tie.Need-element-write-l-3 Inv-loop μ-loop
 element-write-l-3 c = search needs
@@ -49,20 +49,16 @@ loop-less : tie.Need-loop-less Inv-loop μ-loop
 loop-less c = search needs
 
 loop-again : tie.Need-loop-again Inv-loop μ-loop
-loop-again c = let l = c .before .before .before .before in
-    let lt = c .before .before .before .loop-test .taken in
-    (omega arith, copied-more _ _ _ _ _ _ _ _ (omega (arith, lt, l .before .pre .0)) (l .loop .inv .1) (c .before .narrow .ensures) (c .narrow2 .ensures) refl)
+loop-again c =
+    let l = c .before .before in
+    let lt = c .before .loop-test .taken in
+    (omega arith, copied-more _ _ _ _ _ _ _ _ (omega (arith, lt, l .before .pre)) (l .loop .inv .1) refl refl refl)
 
 returns : tie.Need-returns Inv-loop μ-loop
-returns c = let l = c .before in
+returns c =
+    let l = c .before in
     let z : l .loop .e ≡ l .before .args .n = omega (arith, l .loop .inv .0, c .loop-test .left) in
     (search needs, rw z at (l .loop .inv .1))
-
-mul-l-2 : tie.Need-mul-l-2 Inv-loop μ-loop
-mul-l-2 c = search needs
-
-mul-l-3 : tie.Need-mul-l-3 Inv-loop μ-loop
-mul-l-3 c = search needs
 
 pub copied-spec : {M : Type 1} → statement M
 copied-spec =
@@ -73,10 +69,8 @@ copied-spec =
     loop-holds
     mul-x
     array-copy-out-x
-    narrow-requires
     mul-l
     element-write-l
-    narrow-requires-2
     mul-l-2
     element-write-l-2
     mul-l-3
