@@ -10,7 +10,7 @@ use lib.ListN.{length, getD, set, length-set, replicate, getD-replicate}
 use lib.Seq.{getD-set-same, getD-set-other}
 use Rattle.graph.specs.Limits.{most-nodes}
 use Rattle.graph.specs.Scan.{FirstFrom}
-use Rattle.route.specs.Spread.{unseen, Back, Homeward, Spread}
+use Rattle.route.specs.Spread.{unseen, Back, Spread}
 use Rattle.route.specs.Way.{Net, Linked, Way, Remains}
 use Rattle.route.proofs.Ways.{Shut, at-same, set-val, unseen-set, way-back}
 use Rattle.route.proofs.Linking.{Into, first-into, next-into}
@@ -28,9 +28,8 @@ module _ (from to left : List ℕ) (goal : ℕ) where
     room = ap length q ∙ length-set (replicate most-nodes 0) 0 goal;
     all = omega (arith, c, ap unseen p, unseen-set (replicate most-nodes 65535) goal 0 g (getD-replicate {A = ℕ} most-nodes goal 65535 0 g) (omega arith));
     aim = aim;
-    home = λ v h z. ⊎-elim (λ a. a .0) (λ a. absurd (omega (arith, z, a .1))) (at v h);
+    led = record { home = λ v h z. ⊎-elim (λ a. a .0) (λ a. absurd (omega (arith, z, a .1))) (at v h); back = λ v k h z s. ⊎-elim (λ a. absurd (omega (arith, z, a .1))) (λ a. absurd (omega (arith, z, a .1, s))) (at v h) };
     most = λ v h. ⊎-elim (λ a. inr (omega (arith, a .1, c))) (λ a. inl (a .1)) (at v h);
-    back = λ v k h z s. ⊎-elim (λ a. absurd (omega (arith, z, a .1))) (λ a. absurd (omega (arith, z, a .1, s))) (at v h);
     known = λ j h. let z : getD queue j 0 ≡ goal = ap (λ (k : ℕ). getD queue k 0) (let e : j ≡ 0 = omega (arith, h, c) in e) ∙ first in
         (omega (arith, z, g), omega (arith, at-same dist z, aim));
     queued = λ v h s. ⊎-elim (λ a. (0, omega (arith, c), first ∙ sym (a .0))) (λ a. absurd (omega (arith, a .1, s))) (at v h);
@@ -50,7 +49,7 @@ module _ (from to left : List ℕ) (goal : ℕ) where
   module _ (dist via queue : List ℕ) (count i e : ℕ) (y : Spread from to left goal dist via queue count i e) where
     -- the same nodes, more edges looked at
     spread-on : (i′ e′ : ℕ) → ((j x : ℕ) → x < length from → Remains left x → getD to x 0 ≡ getD queue j 0 → (j < i′) ⊎ ((j ≡ i′) × (x < e′)) → getD dist (getD from x 0) 0 < 65535) → Spread from to left goal dist via queue count i′ e′
-    spread-on i′ e′ f = record { long = y .long; wide = y .wide; room = y .room; all = y .all; aim = y .aim; home = y .home; most = y .most; back = y .back; known = y .known; queued = y .queued; done = f }
+    spread-on i′ e′ f = record { long = y .long; wide = y .wide; room = y .room; all = y .all; led = y .led; aim = y .aim; most = y .most; known = y .known; queued = y .queued; done = f }
 
     -- edges that end elsewhere
     pub spread-skip : (e′ : ℕ) → ((x : ℕ) → e ≤ x → x < e′ → getD to x 0 ≡ getD queue i 0 → ⊥) → Spread from to left goal dist via queue count i e′
@@ -88,9 +87,6 @@ module _ (from to left : List ℕ) (goal : ℕ) where
 
     pub spread-near : (v : ℕ) → v < most-nodes → getD dist v 0 < 65535 → getD dist v 0 < count
     spread-near v h l = ⊎-elim (λ a. absurd (omega (arith, a))) (λ a. a) (y .most v h)
-
-    pub spread-homeward : Homeward from to left goal dist via
-    spread-homeward = record { near = λ v h l. omega (arith, spread-near v h l, y .all); home = y .home; back = y .back }
 
     pub spread-seen : (v : ℕ) → v < most-nodes → getD dist v 0 ≢ 65535 → getD dist v 0 < 65535
     spread-seen v h f = ⊎-elim (λ z. absurd (f z)) (λ z. omega (arith, z, y .all)) (y .most v h)
@@ -130,9 +126,8 @@ module _ (from to left : List ℕ) (goal : ℕ) where
         room = length-set queue count (getD from e 0) ∙ y .room;
         all = omega (arith, y .all, fewer);
         aim = spread-keep goal (omega (arith, y .aim)) ∙ y .aim;
-        home = λ w l z. ⊎-elim (λ a. absurd (omega (arith, a .1, z))) (λ a. y .home w l (sym (a .1) ∙ z)) (new w);
+        led = record { home = λ w l z. ⊎-elim (λ a. absurd (omega (arith, a .1, z))) (λ a. y .led .home w l (sym (a .1) ∙ z)) (new w); back = back };
         most = λ w l. ⊎-elim (λ a. inr (omega (arith, a .1, near))) (λ a. ⊎-elim (λ b. inl (a .1 ∙ b)) (λ b. inr (omega (arith, a .1, b))) (y .most w l)) (new w);
-        back = back;
         known = known;
         queued = queued;
         done = done;
@@ -149,7 +144,7 @@ module _ (from to left : List ℕ) (goal : ℕ) where
 
               there : (w ≢ v) × (getD (set dist v (d + 1)) w 0 ≡ getD dist w 0) → Back from to left (set dist v (d + 1)) w k (getD (set via v e) w 0)
               there a =
-                  let b = y .back w k l (sym (a .1) ∙ z) small in
+                  let b = y .led .back w k l (sym (a .1) ∙ z) small in
                   subst⁻¹ (Back from to left (set dist v (d + 1)) w k) (getD-set-other via v w e 0 (a .0)) (b .0, b .1, b .2, spread-keep (getD to (getD via w 0) 0) (omega (arith, b .3, small)) ∙ b .3)
 
           known : (j : ℕ) → j < count + 1 → (getD (set queue count (getD from e 0)) j 0 < most-nodes) × (getD (set dist v (d + 1)) (getD (set queue count (getD from e 0)) j 0) 0 < 65535)

@@ -25,7 +25,6 @@ Back from to left dist v k x = (x < length from) × Remains left x × (getD from
 
 -- a node that is reached is the goal, or goes on by an edge to one that is nearer
 pub record Homeward (from to left : List ℕ) (goal : ℕ) (dist via : List ℕ) : Type 0 where
-  pub near : (v : ℕ) → v < most-nodes → getD dist v 0 < 65535 → getD dist v 0 < most-nodes
   pub home : (v : ℕ) → v < most-nodes → getD dist v 0 ≡ 0 → v ≡ goal
   pub back : (v k : ℕ) → v < most-nodes → getD dist v 0 ≡ suc k → k < 65534 → Back from to left dist v k (getD via v 0)
 
@@ -35,10 +34,9 @@ pub record Spread (from to left : List ℕ) (goal : ℕ) (dist via queue : List 
   pub wide : length via ≡ most-nodes
   pub room : length queue ≡ most-nodes
   pub all : count + unseen dist ≡ most-nodes
+  pub led : Homeward from to left goal dist via
   pub aim : getD dist goal 0 ≡ 0
-  pub home : (v : ℕ) → v < most-nodes → getD dist v 0 ≡ 0 → v ≡ goal
   pub most : (v : ℕ) → v < most-nodes → (getD dist v 0 ≡ 65535) ⊎ (getD dist v 0 < count)
-  pub back : (v k : ℕ) → v < most-nodes → getD dist v 0 ≡ suc k → k < 65534 → Back from to left dist v k (getD via v 0)
   pub known : (j : ℕ) → j < count → (getD queue j 0 < most-nodes) × (getD dist (getD queue j 0) 0 < 65535)
   pub queued : (v : ℕ) → v < most-nodes → getD dist v 0 < 65535 → (j : ℕ) × (j < count) × (getD queue j 0 ≡ v)
   pub done : (j x : ℕ) → x < length from → Remains left x → getD to x 0 ≡ getD queue j 0 → (j < i) ⊎ ((j ≡ i) × (x < e)) → getD dist (getD from x 0) 0 < 65535

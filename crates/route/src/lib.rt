@@ -79,7 +79,7 @@ fn trace(
     out: &mut [u16; Graph::NODES],
 ) -> usize
     requires { ⌜ Net (now from) (now to) × Homeward (now from) (now to) (now left) goal (now dist) (now via) ⌝ }
-    requires { ⌜ (a < most-nodes) × (a ≢ goal) × (getD (now dist) a 0 < 65535) ⌝ }
+    requires { ⌜ (a < most-nodes) × (a ≢ goal) × (getD (now dist) a 0 < most-nodes) ⌝ }
     requires { ⌜ length (now out) ≡ most-nodes ⌝ }
     ensures { λ r. ⌜ (length (now (out .exit)) ≡ most-nodes) × Found (now (from .entry)) (now (to .entry)) (now (left .entry)) a goal (record { edges = now (out .exit); len = r }) ⌝ }
 {

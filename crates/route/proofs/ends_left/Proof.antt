@@ -16,13 +16,16 @@ Inv-loop to links left goal n e₀ e = Sealing to left goal e
 abbrev μ-loop : tie.MeasureT-loop
 μ-loop to links left goal n e₀ e = length to - e
 
--- the next edge that ends at the goal
-next : (c : tie.After-wide2 Inv-loop μ-loop) → FirstFrom (Into (c .before .before .before .before .before .before .before .before .before .args .to .now) (c .before .before .before .before .before .before .before .before .before .args .goal)) (c .before .before .before .before .before .loop .e + 1) (length (c .before .before .before .before .before .before .before .before .before .args .to .now)) (c .wide2 .result)
-next c =
-    let l = c .before .before .before .before .before in
-    let st = l .before .before .before .before in
-    let lt = c .before .before .before .before .loop-test .taken in
-    next-into _ _ (st .pre .2) _ _ _ lt (l .loop .inv .ends lt) (c .wide2 .ensures .0)
+-- when the next edge is read
+module _ (c : tie.After-wide2 Inv-loop μ-loop) where
+  abbrev turn : tie.In-loop Inv-loop μ-loop
+  turn = c .before .before .before .before
+
+  abbrev start : tie.Start Inv-loop μ-loop
+  start = turn .before .before .before .before .before
+
+  next : FirstFrom (Into (start .args .to .now) (start .args .goal)) (turn .before .loop .e + 1) (length (start .args .to .now)) (c .wide2 .result)
+  next = let lt = turn .loop-test .taken in next-into _ _ (start .pre .2) _ _ _ lt (turn .before .loop .inv .ends lt) (c .wide2 .ensures .0)
 
 mul-wide : tie.Need-mul-wide Inv-loop μ-loop
 mul-wide c = search needs
@@ -61,7 +64,7 @@ loop-less : tie.Need-loop-less Inv-loop μ-loop
 loop-less c = omega (arith, next c .low)
 
 loop-again : tie.Need-loop-again Inv-loop μ-loop
-loop-again c = let l = c .before .before .before .before .before in sealing-next _ _ _ _ _ (l .loop .inv) (omega (arith, c .before .before .if1 .left)) (next c)
+loop-again c = sealing-next _ _ _ _ _ (turn c .before .loop .inv) (omega (arith, c .before .before .if1 .left)) (next c)
 
 returns-2 : tie.Need-returns-2 Inv-loop μ-loop
 returns-2 c = λ z. sealing-end _ _ _ _ (c .before .loop .inv) (c .loop-test .left)

@@ -10,7 +10,7 @@ use borrow.Author.Tests.{not-true}
 use Rattle.graph.specs.Limits.{most-nodes}
 use Rattle.route.specs.Spread.{Spread}
 use Rattle.route.specs.Way.{Net, Linked}
-use Rattle.route.proofs.Spreads.{start-far, spread-start, spread-none, spread-homeward, Looking, node-known, look-start, look-near, look-less, look-pass, look-seen, look-room, look-mark, look-end}
+use Rattle.route.proofs.Spreads.{start-far, spread-start, spread-none, spread-near, Looking, node-known, look-start, look-near, look-less, look-pass, look-seen, look-room, look-mark, look-end}
 use Rattle.route.proofs.Traced.{none-found}
 use Rattle.route.proofs.Ways.{net-ends, way-sealed}
 use borrow.Author.Needs.{needs}
@@ -226,7 +226,7 @@ trace-requires c κs =
     let n = c .before .before .before .before in
     let l = n .before in
     let st = start l in
-    ((net l, spread-homeward _ _ _ _ _ _ _ _ _ _ (looked n)), ((st .pre .1 .0 .0, st .pre .1 .0 .2, c .before .before .before .if4 .taken), turn l .before .loop .inv .2))
+    ((net l, looked n .led), ((st .pre .1 .0 .0, st .pre .1 .0 .2, omega (arith, spread-near _ _ _ _ _ _ _ _ _ _ (looked n) _ (st .pre .1 .0 .0) (c .before .before .before .if4 .taken), looked n .all)), turn l .before .loop .inv .2))
 
 returns-2 : tie.Need-returns-2 Inv-loop2 μ-loop2 Inv-loop μ-loop
 returns-2 c = search needs

@@ -29,7 +29,7 @@ loop-holds : tie.Need-loop-holds Inv-loop μ-loop
 loop-holds c =
     let st = c .before .before .before .before in
     let w = c .wide .ensures in
-    (omega arith, st .pre .1 .0 .0, omega (arith, w .0), omega (arith, w .0, st .pre .0 .1 .near _ (st .pre .1 .0 .0) (st .pre .1 .0 .2)), traced-none _ _ _ _ _ (st .pre .1 .1))
+    (omega arith, st .pre .1 .0 .0, omega (arith, w .0), omega (arith, w .0, st .pre .1 .0 .2), traced-none _ _ _ _ _ (st .pre .1 .1))
 
 mul-e : tie.Need-mul-e Inv-loop μ-loop
 mul-e c = search needs
