@@ -54,20 +54,21 @@ void print_difference(const char *operation, const Bytes &file, Number argument,
 std::size_t Comparison::reached_[3][12] = {};
 
 template <class Outcome>
-void Comparison::hold(Operation operation, const Bytes &file, Number argument, std::size_t room,
-                      Outcome (*theirs)(const Bytes &, Number, std::size_t),
-                      Outcome (*ours)(const Bytes &, Number, std::size_t)) {
+Outcome Comparison::hold(Operation operation, const Bytes &file, Number argument, std::size_t room,
+                         Outcome (*theirs)(const Bytes &, Number, std::size_t),
+                         Outcome (*ours)(const Bytes &, Number, std::size_t)) {
     static const char *names[] = {"run", "ask", "strip"};
     ++calls_;
     const Outcome expected = theirs(file, argument, room);
     ++reached_[operation][expected.answer];
     const std::string got = text_of([&] { return ours(file, argument, room); });
-    if (got == text(expected)) return;
-    if (++differences_ <= 3) print_difference(names[operation], file, argument, room, text(expected), got);
+    if (got != text(expected) && ++differences_ <= 3)
+        print_difference(names[operation], file, argument, room, text(expected), got);
+    return expected;
 }
 
-void Comparison::run(const Bytes &file, std::size_t room) {
-    hold(run_operation, file, 0, room, reference_run, library_run);
+Report Comparison::run(const Bytes &file, std::size_t room) {
+    return hold(run_operation, file, 0, room, reference_run, library_run);
 }
 
 void Comparison::ask(const Bytes &file, Number order, std::size_t room) {

@@ -10,7 +10,8 @@ class Comparison {
 public:
     enum Operation { run_operation, ask_operation, strip_operation };
 
-    void run(const reference::Bytes &file, std::size_t room);
+    // What the reference reports, for what is done next with the file.
+    reference::Report run(const reference::Bytes &file, std::size_t room);
     void ask(const reference::Bytes &file, reference::Number order, std::size_t room);
     void strip(const reference::Bytes &file, reference::Number count, std::size_t room);
 
@@ -24,9 +25,9 @@ public:
 
 private:
     template <class Outcome>
-    void hold(Operation operation, const reference::Bytes &file, reference::Number argument, std::size_t room,
-              Outcome (*theirs)(const reference::Bytes &, reference::Number, std::size_t),
-              Outcome (*ours)(const reference::Bytes &, reference::Number, std::size_t));
+    Outcome hold(Operation operation, const reference::Bytes &file, reference::Number argument, std::size_t room,
+                 Outcome (*theirs)(const reference::Bytes &, reference::Number, std::size_t),
+                 Outcome (*ours)(const reference::Bytes &, reference::Number, std::size_t));
 
     std::size_t calls_ = 0, differences_ = 0;
     static std::size_t reached_[3][12];

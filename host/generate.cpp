@@ -79,10 +79,10 @@ Pairs straight(unsigned n) {
     return pairs;
 }
 
-// Diamonds and single edges in a row. At most six diamonds, so at most 64 routes between any two nodes.
-Pairs ladder(Random &random, unsigned n) {
+// Diamonds and single edges in a row. Over d diamonds there are two to the power of d routes.
+Pairs ladder(Random &random, unsigned n, unsigned diamonds) {
     Pairs pairs;
-    for (unsigned at = 0, diamonds = 6; at + 1 < n;) {
+    for (unsigned at = 0; at + 1 < n;) {
         if (at + 3 < n && diamonds > 0 && random.chance(40)) {
             pairs.insert({{at, at + 1}, {at, at + 2}, {at + 1, at + 3}, {at + 2, at + 3}});
             at += 3, --diamonds;
@@ -126,11 +126,12 @@ const std::vector<Rule> &legal_rules() {
     return all;
 }
 
-std::vector<Order> orders(Random &random, unsigned nodes, unsigned most) {
+std::vector<Order> orders(Random &random, unsigned nodes, unsigned most, unsigned apart) {
     std::vector<Order> orders;
     Pairs asked;
     for (unsigned i = nodes < 2 ? 0 : random.below(most + 1); i > 0; --i) {
-        const unsigned first = random.below(nodes), second = random.below(nodes);
+        const unsigned first = random.below(nodes);
+        const unsigned second = random.between(first - std::min(first, apart), std::min(first + apart, nodes - 1));
         if (first == second || !asked.insert({first, second}).second) continue;
         orders.push_back({first, second});
         if (random.chance(20) && asked.insert({second, first}).second) orders.push_back({second, first});
@@ -148,16 +149,24 @@ Request small(Random &random) {
 }
 
 Request large(Random &random) {
-    const unsigned n = random.between(9, 64), shape = random.below(3);
-    const Pairs pairs = shape == 0 ? straight(n) : shape == 1 ? ladder(random, n) : looped(random, n);
+    const unsigned n = random.chance(40) ? random.between(9, 99) : random.between(100, most_nodes);
+    const unsigned shape = random.below(3);
+    const Pairs pairs = shape == 0 ? straight(n) : shape == 1 ? ladder(random, n, 6) : looped(random, n);
     return {nodes(random, n), edges_of(random, pairs), rules(random), orders(random, n, 8)};
+}
+
+Request branching(Random &random) {
+    const unsigned n = random.between(100, most_nodes), diamonds = n / 3;
+    const Pairs pairs = ladder(random, n, diamonds);
+    // a diamond has three nodes more, so two that are so far apart have at most 64 routes
+    return {nodes(random, n), edges_of(random, pairs), rules(random), orders(random, n, most_orders, 18)};
 }
 
 Request at_limits(Random &random) {
     const auto near = [&](unsigned limit) { return limit - 1 + random.below(random.chance(30) ? 3 : 2); };
-    const unsigned n = random.chance(60) ? near(most_nodes) : random.between(50, 62);
+    const unsigned n = random.chance(60) ? near(most_nodes) : random.between(300, most_nodes - 2);
     Pairs pairs = straight(n);
-    const std::size_t edges = random.chance(60) ? near(most_edges) : random.between(n, 185);
+    const std::size_t edges = random.chance(60) ? near(most_edges) : random.between(n, most_edges - 2);
     // Self-edges, steps back and jumps to the start: no second route between nodes in rising order.
     for (unsigned i = 0; pairs.size() < edges; ++i) {
         const unsigned from = i % n;
@@ -167,6 +176,7 @@ Request at_limits(Random &random) {
     const std::size_t rules = random.chance(30) ? near(most_rules) : 0;
     while (request.rules.size() < rules) request.rules.push_back(legal_rules()[random.below(legal_rules().size())]);
     const std::size_t orders = random.chance(40) ? near(most_orders) : random.below(5);
+    if (orders > 0 && random.chance(20)) request.orders.push_back({0, n - 1});  // the longest route there is
     for (unsigned i = 0; request.orders.size() < orders; ++i) {
         const unsigned length = random.between(1, 3), first = (5 * i) % (n - length);
         const Order order{first, first + length};

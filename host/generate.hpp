@@ -28,8 +28,11 @@ const std::vector<Rule> &legal_rules();
 // Up to eight nodes: loops, self-edges, fences already there, orders both ways, many rule sets and weights.
 Request small(Random &random);
 
-// Lines, ladders and loops of up to 64 nodes, with few routes between any two nodes.
+// Lines, ladders and loops of up to 512 nodes, with few routes between any two nodes.
 Request large(Random &random);
+
+// Ladders of 100 to 512 nodes with many diamonds, and up to 32 orders over short stretches of them.
+Request branching(Random &random);
 
 // Counts at their limits, or one below or beyond.
 Request at_limits(Random &random);
@@ -47,8 +50,8 @@ Bytes damaged(Random &random, Bytes file);
 // Marks and bytes in any order.
 Bytes soup(Random &random);
 
-// Other orders over the nodes below `nodes`.
-std::vector<Order> orders(Random &random, unsigned nodes, unsigned most);
+// Other orders over the nodes below `nodes`, the numbers of their two nodes at most so far apart.
+std::vector<Order> orders(Random &random, unsigned nodes, unsigned most, unsigned apart = most_nodes);
 
 }  // namespace generate
 

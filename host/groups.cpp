@@ -3,12 +3,12 @@
 
 #include <algorithm>
 
+#include "programs.hpp"
+
 using namespace reference;
 using generate::Random;
 
 namespace {
-
-constexpr std::size_t ample = 4096;
 
 // A buffer's length that is interesting for what is to be written: exact, one less, one more, none, or ample.
 std::size_t room_for(Random &random, std::size_t exact) {
@@ -20,6 +20,12 @@ std::size_t room_for(Random &random, std::size_t exact) {
         case 4: return random.below(exact + 1);
         default: return ample;
     }
+}
+
+// A number of entries for a route: mostly just enough.
+std::size_t entries_for(Random &random) {
+    if (random.chance(90)) return most_nodes;
+    return random.chance(50) ? random.between(most_nodes - 2, most_nodes + 2) : random.below(most_nodes);
 }
 
 Number order_for(Random &random, std::size_t orders) {
@@ -37,12 +43,11 @@ Number count_for(Random &random, std::size_t nodes) {
 // All three operations on one file, and strip on what run wrote.
 void compare_file(Comparison &comparison, Random &random, const Bytes &file) {
     const Reading reading = read(file);
-    const Report whole = run(file, ample);
-    comparison.run(file, ample);
+    const Report whole = comparison.run(file, ample);
     comparison.run(file, room_for(random, whole.out.size()));
     for (unsigned i = 0; i < 2; ++i) {
         const Number order = order_for(random, reading.request.orders.size());
-        comparison.ask(file, order, random.chance(90) ? 64 : random.below(66));
+        comparison.ask(file, order, entries_for(random));
     }
     const std::size_t nodes = reading.request.nodes.size();
     const Number count = count_for(random, nodes);
@@ -55,8 +60,7 @@ void compare_chain(Comparison &comparison, Random &random, Request request) {
     const unsigned first_nodes = static_cast<unsigned>(request.nodes.size());
     for (unsigned runs = random.between(2, 4); runs > 0; --runs) {
         const Bytes file = written(request);
-        comparison.run(file, ample);
-        const Report report = run(file, ample);
+        const Report report = comparison.run(file, ample);
         if (report.answer != 0) return;
         comparison.run(report.out, ample);
         request = read(report.out).request;
@@ -98,6 +102,9 @@ void small_files(Comparison &comparison, Random &random) {
 void large_files(Comparison &comparison, Random &random) {
     compare_file(comparison, random, written(generate::large(random)));
 }
+void branching_files(Comparison &comparison, Random &random) {
+    compare_file(comparison, random, written(generate::branching(random)));
+}
 void limit_files(Comparison &comparison, Random &random) {
     compare_file(comparison, random, written(generate::at_limits(random)));
 }
@@ -121,6 +128,7 @@ const std::vector<Group> &groups() {
     static const std::vector<Group> all = {
         {"small", small_files, 2600},
         {"large", large_files, 200},
+        {"branching", branching_files, 60},
         {"limits", limit_files, 70},
         {"spoiled", spoiled_files, 1200},
         {"damaged", damaged_files, 1200},
@@ -136,7 +144,7 @@ unsigned compare_tiny(Comparison &comparison) {
     const unsigned files = 512 * 27;
     for (unsigned i = 0; i < files; ++i) {
         comparison.run(tiny_file(i), ample);
-        comparison.ask(tiny_file(i), i % 6, 64);
+        comparison.ask(tiny_file(i), i % 6, most_nodes);
     }
     return files;
 }

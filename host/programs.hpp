@@ -17,6 +17,6 @@ constexpr Program programs[] = {
     {"library", library::run, library::ask, library::strip},
 };
 
-constexpr std::size_t ample = 4096;  // room for whatever can be written
+constexpr std::size_t ample = 16384;  // room for whatever can be written
 
 #endif

@@ -1,5 +1,6 @@
 // An independent program for run, ask and strip, written from the scope's words alone and as literally as they
-// allow. It is slow on purpose: every route is enumerated, and every refusal is found and then ranked.
+// allow. It is slow on purpose: every route is enumerated, and every refusal is found and then ranked. So it takes
+// files of any size, but only such as have few routes between the ends of an order.
 #ifndef REFERENCE_HPP
 #define REFERENCE_HPP
 
@@ -14,7 +15,7 @@ using Number = std::uint64_t;
 
 enum Kind : unsigned { store = 0, load = 1, full_fence = 2, wildcard = 3 };
 
-constexpr std::size_t most_nodes = 64, most_edges = 192, most_rules = 32, most_orders = 32;
+constexpr std::size_t most_nodes = 512, most_edges = 1024, most_rules = 32, most_orders = 32;
 
 struct Node {
     unsigned kind, address;

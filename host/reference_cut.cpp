@@ -10,10 +10,10 @@ namespace {
 
 constexpr std::size_t few = 14;  // with so many edges that matter, every set is tried
 
-// The routes of the open orders, each as the set of its edges, and the edges on them. No other edge can be in a cut
-// of least weight, since without it the cut would be lighter.
+// The routes of the open orders, each as the set of its edges that matter. An edge on no such route can't be in a
+// cut of least weight, since without it the cut would be lighter.
 struct Problem {
-    std::vector<unsigned> edges;           // rising edge numbers
+    std::vector<unsigned> edges;           // that matter: rising edge numbers
     std::vector<std::vector<bool>> meets;  // meets[r][i]: route r runs over edges[i]
     std::vector<Number> weights;
 };
@@ -27,23 +27,40 @@ std::vector<Route> open_routes(const Request &request) {
     return all;
 }
 
-Problem problem_of(const Request &request) {
+// on[i][r]: edge i is on route r.
+std::vector<std::vector<bool>> edges_on(const Request &request, const std::vector<Route> &routes) {
     std::map<std::pair<unsigned, unsigned>, unsigned> number;
     for (unsigned i = 0; i < request.edges.size(); ++i) number[{request.edges[i].from, request.edges[i].to}] = i;
-    const std::vector<Route> all = open_routes(request);
-    std::map<unsigned, std::size_t> used;
-    for (const Route &route : all)
-        for (std::size_t p = 1; p < route.size(); ++p) used[number[{route[p - 1], route[p]}]] = 0;
-    Problem problem;
-    for (auto &[edge, index] : used) {
-        index = problem.edges.size();
-        problem.edges.push_back(edge);
-        problem.weights.push_back(request.edges[edge].weight);
+    std::vector<std::vector<bool>> on(request.edges.size(), std::vector<bool>(routes.size(), false));
+    for (std::size_t r = 0; r < routes.size(); ++r)
+        for (std::size_t p = 1; p < routes[r].size(); ++p) on[number[{routes[r][p - 1], routes[r][p]}]][r] = true;
+    return on;
+}
+
+// The edges that matter, rising: of those on the very same routes one. A cut of least weight has at most one of
+// these, which the lightest can stand for, and of several lightest the first gives the list that comes first.
+std::vector<unsigned> edges_that_matter(const Request &request, const std::vector<std::vector<bool>> &on) {
+    std::map<std::vector<bool>, unsigned> chosen;
+    for (unsigned i = 0; i < request.edges.size(); ++i) {
+        if (std::find(on[i].begin(), on[i].end(), true) == on[i].end()) continue;
+        const auto [at, fresh] = chosen.insert({on[i], i});
+        if (!fresh && request.edges[i].weight < request.edges[at->second].weight) at->second = i;
     }
-    for (const Route &route : all) {
-        std::vector<bool> on(problem.edges.size(), false);
-        for (std::size_t p = 1; p < route.size(); ++p) on[used[number[{route[p - 1], route[p]}]]] = true;
-        problem.meets.push_back(on);
+    std::vector<unsigned> edges;
+    for (const auto &[routes, edge] : chosen) edges.push_back(edge);
+    std::sort(edges.begin(), edges.end());
+    return edges;
+}
+
+Problem problem_of(const Request &request) {
+    const std::vector<Route> all = open_routes(request);
+    const std::vector<std::vector<bool>> on = edges_on(request, all);
+    Problem problem;
+    problem.edges = edges_that_matter(request, on);
+    for (unsigned edge : problem.edges) problem.weights.push_back(request.edges[edge].weight);
+    for (std::size_t r = 0; r < all.size(); ++r) {
+        problem.meets.emplace_back();
+        for (unsigned edge : problem.edges) problem.meets.back().push_back(on[edge][r]);
     }
     // Shorter routes first, and each once: the bound below gets sharper, the problem stays the same.
     const auto size = [](const std::vector<bool> &on) { return std::count(on.begin(), on.end(), true); };

@@ -2,7 +2,10 @@
 #include "reference.hpp"
 
 #include <algorithm>
+#include <bitset>
 #include <functional>
+#include <map>
+#include <utility>
 
 namespace reference {
 namespace {
@@ -15,27 +18,93 @@ bool matches(unsigned kind, unsigned variable, const Node &node, const Assignmen
     return kind == full_fence || address[variable] == node.address;
 }
 
-// Hands over the routes from the last node of `route` to `to`, first by node numbers first, until `enough` says so.
-bool extend(const Request &request, Route &route, unsigned to, const std::function<bool(const Route &)> &enough) {
-    if (route.back() == to) return enough(route);
-    std::vector<unsigned> next;
-    for (const Edge &edge : request.edges)
-        if (edge.from == route.back()) next.push_back(edge.to);
-    std::sort(next.begin(), next.end());
-    for (unsigned node : next) {
-        if (std::find(route.begin(), route.end(), node) != route.end()) continue;
-        route.push_back(node);
-        const bool stop = extend(request, route, to, enough);
-        route.pop_back();
-        if (stop) return true;
-    }
-    return false;
-}
+// Hands over the routes of an order, first by node numbers first, until `enough` says so.
+class Enumeration {
+public:
+    using Enough = std::function<bool(const Route &)>;
 
-bool some_rule_fits(const Request &request, unsigned left, unsigned right) {
-    return std::any_of(request.rules.begin(), request.rules.end(),
-                       [&](const Rule &rule) { return fits(rule, request.nodes[left], request.nodes[right]); });
-}
+    Enumeration(const Request &request, const Order &order, Enough enough)
+        : next_(request.nodes.size()),
+          on_route_(request.nodes.size(), false),
+          route_{order.first},
+          to_(order.second),
+          enough_(std::move(enough)) {
+        for (const Edge &edge : request.edges) next_[edge.from].push_back(edge.to);
+        for (std::vector<unsigned> &nodes : next_) std::sort(nodes.begin(), nodes.end());
+        on_route_[order.first] = true;
+        extend();
+    }
+
+private:
+    // Is there a way from this node to the last one past the nodes on the route? Asked where the route forks, it
+    // keeps the steps to few where routes are few, however many ways lead nowhere.
+    bool leads_on(unsigned from) const {
+        std::vector<bool> seen = on_route_;
+        std::vector<unsigned> waiting{from};
+        while (!waiting.empty() && waiting.back() != to_) {
+            const unsigned at = waiting.back();
+            waiting.pop_back();
+            for (unsigned node : next_[at]) {
+                if (seen[node]) continue;
+                seen[node] = true;
+                waiting.push_back(node);
+            }
+        }
+        return !waiting.empty();
+    }
+
+    bool extend() {
+        const unsigned at = route_.back();
+        if (at == to_) return enough_(route_);
+        for (unsigned node : next_[at]) {
+            if (on_route_[node] || (next_[at].size() > 1 && !leads_on(node))) continue;
+            route_.push_back(node);
+            on_route_[node] = true;
+            const bool stop = extend();
+            on_route_[node] = false;
+            route_.pop_back();
+            if (stop) return true;
+        }
+        return false;
+    }
+
+    std::vector<std::vector<unsigned>> next_;  // the nodes after each node, rising
+    std::vector<bool> on_route_;
+    Route route_;
+    const unsigned to_;
+    const Enough enough_;
+};
+
+// Whether some rule fits the nodes at two places of a route. A long route has many places and few labels, so each
+// two labels are judged once.
+class Fitting {
+public:
+    Fitting(const Request &request, const Route &route) {
+        std::map<std::pair<unsigned, unsigned>, std::size_t> numbers;
+        std::vector<Node> labels;
+        for (unsigned number : route) {
+            const Node &node = request.nodes[number];
+            const auto [at, fresh] = numbers.insert({{node.kind, node.address}, labels.size()});
+            if (fresh) labels.push_back(node);
+            label_at_.push_back(at->second);
+        }
+        for (const Node &left : labels) {
+            fits_.emplace_back();
+            for (const Node &right : labels) fits_.back().push_back(some_rule_fits(request, left, right));
+        }
+    }
+
+    bool operator()(std::size_t p, std::size_t q) const { return fits_[label_at_[p]][label_at_[q]]; }
+
+private:
+    static bool some_rule_fits(const Request &request, const Node &left, const Node &right) {
+        return std::any_of(request.rules.begin(), request.rules.end(),
+                           [&](const Rule &rule) { return fits(rule, left, right); });
+    }
+
+    std::vector<std::size_t> label_at_;  // for each place the number of its label
+    std::vector<std::vector<bool>> fits_;
+};
 
 }  // namespace
 
@@ -52,16 +121,17 @@ bool fits(const Rule &rule, const Node &left, const Node &right) {
     return false;
 }
 
-// before[p][q]: a rule fits the nodes at places p and q, or one between is ordered after p and before q.
+// before[p][q], the same as after[q][p]: a rule fits the nodes at places p and q, or one between is ordered after p
+// and before q.
 bool orders_its_ends(const Request &request, const Route &route) {
     const std::size_t n = route.size();
-    std::vector<std::vector<bool>> before(n, std::vector<bool>(n, false));
+    const Fitting some_rule_fits(request, route);
+    std::vector<std::bitset<most_nodes>> before(n), after(n);
     for (std::size_t apart = 1; apart < n; ++apart) {
         for (std::size_t p = 0; p + apart < n; ++p) {
             const std::size_t q = p + apart;
-            bool ordered = some_rule_fits(request, route[p], route[q]);
-            for (std::size_t m = p + 1; m < q && !ordered; ++m) ordered = before[p][m] && before[m][q];
-            before[p][q] = ordered;
+            const bool by_one_between = (before[p] & after[q]).any();
+            before[p][q] = after[q][p] = by_one_between || some_rule_fits(p, q);
         }
     }
     return before[0][n - 1];
@@ -69,8 +139,7 @@ bool orders_its_ends(const Request &request, const Route &route) {
 
 std::vector<Route> routes(const Request &request, const Order &order) {
     std::vector<Route> all;
-    Route route{order.first};
-    extend(request, route, order.second, [&](const Route &found) {
+    Enumeration(request, order, [&](const Route &found) {
         all.push_back(found);
         return false;
     });
@@ -78,8 +147,8 @@ std::vector<Route> routes(const Request &request, const Order &order) {
 }
 
 Route first_unordered(const Request &request, const Order &order) {
-    Route shown, route{order.first};
-    extend(request, route, order.second, [&](const Route &found) {
+    Route shown;
+    Enumeration(request, order, [&](const Route &found) {
         if (orders_its_ends(request, found)) return false;
         shown = found;
         return true;
