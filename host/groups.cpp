@@ -40,6 +40,10 @@ Number count_for(Random &random, std::size_t nodes) {
     return counts[random.below(7)];
 }
 
+Request small_or_large(Random &random, unsigned percent_small) {
+    return random.chance(percent_small) ? generate::small(random) : generate::large(random);
+}
+
 // All three operations on one file, and strip on what run wrote.
 void compare_file(Comparison &comparison, Random &random, const Bytes &file) {
     const Reading reading = read(file);
@@ -75,7 +79,7 @@ void compare_chain(Comparison &comparison, Random &random, Request request) {
 
 // Strip on what run wrote, touched afterwards.
 void compare_unfit(Comparison &comparison, Random &random) {
-    Request request = random.chance(80) ? generate::small(random) : generate::large(random);
+    Request request = small_or_large(random, 80);
     const std::size_t nodes = request.nodes.size();
     const Report report = run(written(request), ample);
     if (report.answer == 0) request = read(report.out).request;
@@ -109,7 +113,7 @@ void limit_files(Comparison &comparison, Random &random) {
     compare_file(comparison, random, written(generate::at_limits(random)));
 }
 void spoiled_files(Comparison &comparison, Random &random) {
-    compare_file(comparison, random, written(generate::spoiled(random, generate::small(random))));
+    compare_file(comparison, random, written(generate::spoiled(random, small_or_large(random, 90))));
 }
 void damaged_files(Comparison &comparison, Random &random) {
     compare_file(comparison, random, generate::damaged(random, written(generate::small(random))));
@@ -119,7 +123,7 @@ void damaged_limit_files(Comparison &comparison, Random &random) {
 }
 void soups(Comparison &comparison, Random &random) { compare_file(comparison, random, generate::soup(random)); }
 void chains(Comparison &comparison, Random &random) {
-    compare_chain(comparison, random, random.chance(80) ? generate::small(random) : generate::large(random));
+    compare_chain(comparison, random, small_or_large(random, 80));
 }
 
 }  // namespace
@@ -127,12 +131,12 @@ void chains(Comparison &comparison, Random &random) {
 const std::vector<Group> &groups() {
     static const std::vector<Group> all = {
         {"small", small_files, 2600},
-        {"large", large_files, 200},
-        {"branching", branching_files, 60},
-        {"limits", limit_files, 70},
+        {"large", large_files, 800},
+        {"branching", branching_files, 400},
+        {"limits", limit_files, 250},
         {"spoiled", spoiled_files, 1200},
         {"damaged", damaged_files, 1200},
-        {"damaged limits", damaged_limit_files, 130},
+        {"damaged limits", damaged_limit_files, 200},
         {"soup", soups, 400},
         {"chains", chains, 500},
         {"unfit", compare_unfit, 800},

@@ -35,15 +35,22 @@ inline Request nothing() { return {{}, {}, fence_rules, {}}; }
 // last.
 inline Request line(unsigned n) {
     Request request{{}, {}, fence_rules, {}};
-    for (unsigned i = 0; i < n; ++i) request.nodes.push_back({i % 2, i});
+    for (unsigned i = 0; i < n; ++i) request.nodes.push_back({i % 2, i % 256});
     for (unsigned i = 0; i + 1 < n; ++i) request.edges.push_back({i, i + 1, 1});
     if (n > 1) request.orders.push_back({0, n - 1});
     return request;
 }
 
-// A line of n nodes, and then a turn to the left where every way orders the goal, though no node that all of them pass
-// seems to: one arm stores to 1, the other to 2, and after they have met both are loaded. A turn to the right does not.
-// The rules keep stores in order, loads in order, and a store before a load of its address.
+// From node 0 over n others to node n + 1, two edges of weight 1 each; an order between the two.
+inline Request star(unsigned n) {
+    Request request{std::vector<Node>(n + 2, {store, 1}), {}, fence_rules, {{0, n + 1}}};
+    for (unsigned i = 1; i <= n; ++i) request.edges.insert(request.edges.end(), {{0, i, 1}, {i, n + 1, 1}});
+    return request;
+}
+
+// A line of n nodes, and then a turn to the left where every way orders the goal, though no node that all of them
+// pass seems to: one arm stores to 1, the other to 2, and after they have met both are loaded. A turn to the right
+// does not. The rules keep stores in order, loads in order, and a store before a load of its address.
 inline Request doubtful(unsigned n) {
     Request request{{{store, 0}}, {}, fence_rules, {}};
     for (const Rule &rule : {Rule{0, 1, 0, 2}, Rule{1, 1, 1, 2}, Rule{0, 1, 1, 1}}) request.rules.push_back(rule);
@@ -51,12 +58,20 @@ inline Request doubtful(unsigned n) {
         request.nodes.push_back({load, 9});
         request.edges.push_back({i - 1, i, 1});
     }
-    for (const Node &node : {Node{load, 9}, Node{store, 1}, Node{store, 2}, Node{load, 9}, Node{load, 1}, Node{load, 2},
-                             Node{load, 3}, Node{load, 9}})
+    for (const Node &node : {Node{load, 9}, Node{store, 1}, Node{store, 2}, Node{load, 9}, Node{load, 1},
+                             Node{load, 2}, Node{load, 3}, Node{load, 9}})
         request.nodes.push_back(node);
     const unsigned left = n, goal = n + 6, right = n + 7;
-    for (auto [from, to] : {std::pair{n - 1, left}, {left, n + 1}, {left, n + 2}, {n + 1, n + 3}, {n + 2, n + 3},
-                            {n + 3, n + 4}, {n + 4, n + 5}, {n + 5, goal}, {n - 1, right}, {right, goal}})
+    for (auto [from, to] : {std::pair{n - 1, left},
+                            {left, n + 1},
+                            {left, n + 2},
+                            {n + 1, n + 3},
+                            {n + 2, n + 3},
+                            {n + 3, n + 4},
+                            {n + 4, n + 5},
+                            {n + 5, goal},
+                            {n - 1, right},
+                            {right, goal}})
         request.edges.push_back({from, to, 1});
     request.orders.push_back({0, goal});
     return request;

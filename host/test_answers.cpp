@@ -53,7 +53,7 @@ const Bytes d = written(graph_d());
 TEST_CASE("answer 0: each operation on D") {
     for (const Program &program : programs) {
         CHECK(program.run(d, ample).answer == 0);
-        CHECK(program.ask(d, 0, 64).answer == 0);
+        CHECK(program.ask(d, 0, most_nodes).answer == 0);
         CHECK(program.strip(d, 4, ample).answer == 0);
     }
 }
@@ -72,8 +72,8 @@ TEST_CASE("answer 1: what can't be read, and where") {
 }
 
 TEST_CASE("answer 2: the first record beyond a limit, over all marks") {
-    Request request = line(65);
-    check_all(written(request), 2, 64);
+    Request request = line(513);
+    check_all(written(request), 2, 512);
     request = nothing();
     request.rules.resize(33, request.rules[0]);
     request.orders.resize(33, {0, 0});
@@ -143,16 +143,16 @@ TEST_CASE("the lowest answer wins, and within it the earliest place") {
 TEST_CASE("answer 8: ask comes before 11 with it") {
     for (const Program &program : programs) {
         for (Number order : {Number{3}, Number{4}, Number{1} << 32, Number{1} << 63, ~Number{0}}) {
-            CHECK(program.ask(d, order, 64).answer == 8);
+            CHECK(program.ask(d, order, most_nodes).answer == 8);
             CHECK(program.ask(d, order, 0).answer == 8);
         }
-        CHECK(program.ask(written(nothing()), 0, 64).answer == 8);
+        CHECK(program.ask(written(nothing()), 0, most_nodes).answer == 8);
     }
 }
 
 TEST_CASE("answer 9 comes before 11, 10 comes before 11") {
     for (const Program &program : programs) {
-        CHECK(program.run(written(line(64)), 0).answer == 9);
+        CHECK(program.run(written(line(512)), 0).answer == 9);
         CHECK(program.strip(d, 3, 0).answer == 10);
     }
 }
@@ -163,8 +163,8 @@ TEST_CASE("answer 11: one byte or entry too few") {
         CHECK(program.run(d, 108).answer == 0);
         CHECK(program.strip(d, 4, 83).answer == 11);
         CHECK(program.strip(d, 4, 84).answer == 0);
-        CHECK(program.ask(d, 0, 63).answer == 11);
-        CHECK(program.ask(d, 2, 63).answer == 11);  // held, and refused all the same
-        CHECK(program.ask(d, 2, 64).answer == 0);
+        CHECK(program.ask(d, 0, 511).answer == 11);
+        CHECK(program.ask(d, 2, 511).answer == 11);  // held, and refused all the same
+        CHECK(program.ask(d, 2, 512).answer == 0);
     }
 }

@@ -30,9 +30,9 @@ TEST_CASE("run and strip with every length from none to more than enough") {
 }
 
 TEST_CASE("ask with every length from none to more than enough") {
-    for (std::size_t room = 0; room <= 70; ++room) {
+    for (std::size_t room = 0; room <= 520; ++room) {
         CHECK(library::ask(d, 0, room).route == reference::ask(d, 0, room).route);
-        CHECK(library::ask(d, 0, room).answer == (room < 64 ? 11 : 0));
+        CHECK(library::ask(d, 0, room).answer == (room < 512 ? 11 : 0));
     }
 }
 
@@ -45,7 +45,7 @@ TEST_CASE("exact buffers that end where memory ends") {
     CHECK(fence_strip(longer, fenced.size(), 4, out.last(84), 84).length == 84);
     CHECK(Bytes(out.last(84), out.last(0)) == d);
     const fence_route asked =
-        fence_ask(longer, fenced.size(), 0, reinterpret_cast<std::uint16_t *>(out.last(128)), 64);
+        fence_ask(longer, fenced.size(), 0, reinterpret_cast<std::uint16_t *>(out.last(1024)), 512);
     CHECK(asked.answer == 0);
     CHECK(asked.length == 0);
 }
@@ -81,10 +81,10 @@ TEST_CASE("buffers at odd addresses") {
 
 TEST_CASE("calls leave nothing behind: the same call gives the same, whatever came between") {
     const Report first = library::run(d, ample);
-    library::run(written(line(63)), ample);
-    library::ask(d, 1, 64);
+    library::run(written(line(511)), ample);
+    library::ask(d, 1, most_nodes);
     library::strip(fenced, 2, ample);
-    library::run(Bytes(3000, 'N'), ample);
+    library::run(Bytes(12000, 'N'), ample);
     const Report again = library::run(d, ample);
     CHECK(again.out == first.out);
     CHECK(again.weight == first.weight);

@@ -13,7 +13,7 @@ const Bytes d = written(graph_d());
 
 void compare_all(Comparison &comparison, const Bytes &file) {
     comparison.run(file, ample);
-    comparison.ask(file, 1, 64);
+    comparison.ask(file, 1, most_nodes);
     comparison.strip(file, 4, ample);
 }
 

@@ -54,8 +54,8 @@ TEST_CASE("pointer and size, empty vectors, no vector at all") {
 }
 
 TEST_CASE("no buffer of the face is ever too short") {
-    CHECK(fence::run(written(line(63))));
-    CHECK(fence::ask(written(line(64)), 0)->route.size() == 64);
+    CHECK(fence::run(written(line(511))));
+    CHECK(fence::ask(written(line(512)), 0)->route.size() == 512);
 }
 
 TEST_CASE("each answer has a sentence of its own") {

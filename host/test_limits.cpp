@@ -32,8 +32,8 @@ void check_run(const Request &request, Number answer, Number place, Number fence
 
 }  // namespace
 
-TEST_CASE("64 nodes and 192 edges, 32 rules and 32 orders: the longest file there is") {
-    Request request = packed(64, 192);
+TEST_CASE("512 nodes and 1,024 edges, 32 rules and 32 orders: the longest file there is") {
+    Request request = packed(512, 1024);
     request.rules.resize(32, request.rules[0]);
     request.orders.clear();
     for (unsigned i = 0; i < 32; ++i) request.orders.push_back({i + 1, i});
@@ -44,8 +44,8 @@ TEST_CASE("64 nodes and 192 edges, 32 rules and 32 orders: the longest file ther
 }
 
 TEST_CASE("one beyond each limit") {
-    check_run(line(65), 2, 64, 0);
-    check_run(packed(60, 193), 2, 60 + 192, 0);
+    check_run(line(513), 2, 512, 0);
+    check_run(packed(500, 1025), 2, 500 + 1024, 0);
     Request request = line(3);
     request.rules.resize(32, request.rules[1]);
     check_run(request, 0, 0, 1);
@@ -61,11 +61,13 @@ TEST_CASE("one beyond each limit") {
 }
 
 TEST_CASE("answer 9: nodes and edges, exactly and one beyond") {
-    check_run(line(63), 0, 0, 1);
-    check_run(line(64), 9, 0, 0);
-    check_run(packed(60, 191), 0, 0, 1);
-    check_run(packed(60, 192), 9, 0, 0);
-    Request request = line(62);
+    check_run(line(511), 0, 0, 1);
+    check_run(line(512), 9, 0, 0);
+    check_run(packed(500, 1023), 0, 0, 1);
+    check_run(packed(500, 1024), 9, 0, 0);
+    check_run(packed(511, 1023), 0, 0, 1);  // what is written has both limits
+    check_run(packed(512, 1024), 9, 0, 0);
+    Request request = line(510);
     request.orders = {{0, 1}, {5, 6}};
     check_run(request, 0, 0, 2);
     request.orders.push_back({10, 11});
@@ -76,7 +78,7 @@ TEST_CASE("answer 9: nodes and edges, exactly and one beyond") {
 
 TEST_CASE("answer 9 judges the chosen cut, even where another of its weight would fit") {
     // From 0 two edges of weight 1 lead over 1 and 2 to 3, and one of weight 2 on to 4.
-    Request request = line(63);
+    Request request = line(511);
     request.edges = {{0, 1, 1}, {0, 2, 1}, {1, 3, 9}, {2, 3, 9}, {3, 4, 2}};
     request.orders = {{0, 4}};
     check_run(request, 9, 0, 0);
@@ -91,19 +93,31 @@ TEST_CASE("the greatest weights, and a cut of many edges") {
     for (Edge &edge : request.edges) edge.weight = 65535;
     check_run(request, 0, 0, 31);
     CHECK(library::run(written(request), ample).weight == 31 * 65535);
+    check_run(star(255), 0, 0, 255);  // 257 nodes before, 512 with the fences
+    check_run(star(256), 9, 0, 0);
 }
 
-TEST_CASE("a route past a turn that only seems to lead on") {
-    for (unsigned n : {1, 2, 20, 56}) {
-        const Bytes file = written(doubtful(n));
-        const Shown shown = library::ask(file, 0, 64);
-        CHECK(shown.route.size() == n + 2);
-        CHECK(shown.route == reference::ask(file, 0, 64).route);
+TEST_CASE("a second run on 512 nodes changes nothing, and strip takes the fences off again") {
+    const Bytes file = written(star(255)), fenced = library::run(file, ample).out;
+    for (const Program &program : programs) {
+        CAPTURE(program.name);
+        CHECK(program.run(fenced, ample).out == fenced);
+        CHECK(program.strip(fenced, 257, ample).out == file);
+        CHECK(program.ask(fenced, 0, most_nodes).route.empty());
     }
 }
 
-TEST_CASE("the longest route has 64 nodes") {
-    const Shown shown = library::ask(written(line(64)), 0, 64);
-    CHECK(shown.route.size() == 64);
-    CHECK(shown.route == reference::ask(written(line(64)), 0, 64).route);
+TEST_CASE("a route past a turn that only seems to lead on") {
+    for (unsigned n : {1, 2, 20, 56, 57, 504}) {
+        const Bytes file = written(doubtful(n));
+        const Shown shown = library::ask(file, 0, most_nodes);
+        CHECK(shown.route.size() == n + 2);
+        CHECK(shown.route == reference::ask(file, 0, most_nodes).route);
+    }
+}
+
+TEST_CASE("the longest route has 512 nodes") {
+    const Shown shown = library::ask(written(line(512)), 0, most_nodes);
+    CHECK(shown.route.size() == 512);
+    CHECK(shown.route == reference::ask(written(line(512)), 0, most_nodes).route);
 }

@@ -110,7 +110,7 @@ TEST_CASE("wrong program 2: nodes seen for good") {
                           fence_rules,
                           {{0, 3}}};
     for (const Program &program : programs) {
-        CHECK(program.ask(written(request), 0, 64).route == Route{0, 2, 3});
+        CHECK(program.ask(written(request), 0, most_nodes).route == Route{0, 2, 3});
         CHECK(cut_of(program, request) == Cut{3});
     }
 }
@@ -118,7 +118,7 @@ TEST_CASE("wrong program 2: nodes seen for good") {
 TEST_CASE("wrong program 3: a rule between the two ends only") {
     Request request = graph_d();
     request.rules.push_back({0, 1, 1, 1});
-    for (const Program &program : programs) CHECK(program.ask(written(request), 1, 64).route.empty());
+    for (const Program &program : programs) CHECK(program.ask(written(request), 1, most_nodes).route.empty());
 }
 
 TEST_CASE("wrong program 4: each open order cut by itself") {

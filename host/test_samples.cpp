@@ -104,26 +104,27 @@ TEST_CASE("P8: no nodes, 14 bytes out") {
 TEST_CASE("P9 and P10: D's order 0 shows 0, 1, 2 and order 2 is held") {
     for (const Program &program : programs) {
         CAPTURE(program.name);
-        CHECK(program.ask(written(graph_d()), 0, 64).route == Route{0, 1, 2});
-        CHECK(program.ask(written(graph_d()), 2, 64).route.empty());
+        CHECK(program.ask(written(graph_d()), 0, most_nodes).route == Route{0, 1, 2});
+        CHECK(program.ask(written(graph_d()), 2, most_nodes).route.empty());
     }
 }
 
 TEST_CASE("ask shows the first route by node numbers, whatever the order of the edges") {
-    // edge numbers alone would lead from 0 to 2 first, fewest nodes from 0 to 4, and from 1 on the edge to 3 stands before that to 2
+    // edge numbers alone would lead from 0 to 2 first, fewest nodes from 0 to 4, and from 1 on the edge to 3 stands
+    // before that to 2
     Request request{{{store, 1}, {store, 2}, {store, 3}, {store, 4}, {load, 5}},
                     {{0, 2, 1}, {2, 4, 1}, {0, 4, 1}, {0, 1, 1}, {1, 3, 1}, {3, 4, 1}, {1, 2, 1}},
                     fence_rules,
                     {{0, 4}}};
     for (const Program &program : programs) {
         CAPTURE(program.name);
-        CHECK(program.ask(written(request), 0, 64).route == Route{0, 1, 2, 4});
+        CHECK(program.ask(written(request), 0, most_nodes).route == Route{0, 1, 2, 4});
     }
     // with a fence as node 2 the first route that does not order its ends is a later one
     request.nodes[2] = {full_fence, 0};
     for (const Program &program : programs) {
         CAPTURE(program.name);
-        CHECK(program.ask(written(request), 0, 64).route == Route{0, 1, 3, 4});
+        CHECK(program.ask(written(request), 0, most_nodes).route == Route{0, 1, 3, 4});
     }
 }
 
@@ -151,10 +152,10 @@ TEST_CASE("run only: repeated order, equal ends, a fence rule missing") {
     check_run_refused(request, 7, 0);
 }
 
-TEST_CASE("run only: 64 nodes with an open order, 63 with a cut of one edge, 65 nodes") {
-    check_run_refused(line(64), 9, 0);
-    check_cut(line(63), {0}, 1);
-    check_run_refused(line(65), 2, 64);
+TEST_CASE("run only: 512 nodes with an open order, 511 with a cut of one edge, 513 nodes") {
+    check_run_refused(line(512), 9, 0);
+    check_cut(line(511), {0}, 1);
+    check_run_refused(line(513), 2, 512);
 }
 
 TEST_CASE("fence-list's lines for D and for what run made of it") {

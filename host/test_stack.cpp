@@ -14,38 +14,41 @@ using namespace samples;
 
 namespace {
 
-constexpr std::uint8_t paint = 0x5A;
-std::vector<std::uint8_t> stack(4 << 20);
+using Word = std::uint64_t;
+
+constexpr Word paint = 0x5A5A5A5A5A5A5A5A;
+std::vector<Word> stack((16 << 20) / sizeof(Word), paint);
 ucontext_t caller, callee;
 std::function<void()> work;
 
 void enter() { work(); }
 
-// Bytes of stack that `call` touches.
+// Bytes of stack that `call` touches. What it touched is painted again for the next call.
 std::size_t stack_of(std::function<void()> call) {
     work = std::move(call);
-    std::fill(stack.begin(), stack.end(), paint);
     getcontext(&callee);
     callee.uc_stack.ss_sp = stack.data();
-    callee.uc_stack.ss_size = stack.size();
+    callee.uc_stack.ss_size = stack.size() * sizeof(Word);
     callee.uc_link = &caller;
     makecontext(&callee, enter, 0);
     swapcontext(&caller, &callee);
-    const auto touched = std::find_if(stack.begin(), stack.end(), [](std::uint8_t byte) { return byte != paint; });
-    return static_cast<std::size_t>(stack.end() - touched);
+    const auto touched = std::find_if(stack.begin(), stack.end(), [](Word word) { return word != paint; });
+    const auto words = static_cast<std::size_t>(stack.end() - touched);
+    std::fill(touched, stack.end(), paint);
+    return words * sizeof(Word);
 }
 
-// 31 sources, each with an edge to the sink and over five nodes whose edges on to it are too heavy to cut: the
-// least cut has 186 of the 191 edges, and the search goes one deeper for each.
+// 31 sources, each with an edge to the sink and over 31 nodes whose edges on to it are too heavy to cut: the least
+// cut has 992 of the 1,023 edges, and the search goes one deeper for each.
 Request deep() {
-    Request request{std::vector<Node>(37, {store, 1}), {}, fence_rules, {}};
-    const unsigned sink = 36;
-    for (unsigned source = 0; source < 31; ++source) {
-        for (unsigned middle = 31; middle < 36; ++middle) request.edges.push_back({source, middle, 1});
+    const unsigned sources = 31, sink = 2 * sources;
+    Request request{std::vector<Node>(sink + 1, {store, 1}), {}, fence_rules, {}};
+    for (unsigned source = 0; source < sources; ++source) {
+        for (unsigned middle = sources; middle < sink; ++middle) request.edges.push_back({source, middle, 1});
         request.edges.push_back({source, sink, 1});
         request.orders.push_back({source, sink});
     }
-    for (unsigned middle = 31; middle < 36; ++middle) request.edges.push_back({middle, sink, 65535});
+    for (unsigned middle = sources; middle < sink; ++middle) request.edges.push_back({middle, sink, 65535});
     return request;
 }
 
@@ -73,11 +76,13 @@ void measure(const Request &request, Deepest &deepest) {
 TEST_CASE("no call takes more stack than fence.h says") {
     generate::Random random(5);
     Deepest deepest;
-    for (unsigned n : {2, 20, 63, 64}) measure(line(n), deepest);
+    for (unsigned n : {2, 20, 511, 512}) measure(line(n), deepest);
     for (unsigned i = 0; i < 100; ++i) measure(generate::small(random), deepest);
     for (unsigned i = 0; i < 20; ++i) measure(generate::large(random), deepest);
+    for (unsigned i = 0; i < 20; ++i) measure(generate::branching(random), deepest);
+    for (unsigned n : {255, 510}) measure(star(n), deepest);
     measure(deep(), deepest);
-    measure(doubtful(56), deepest);
+    measure(doubtful(504), deepest);
     std::printf("deepest stack met: run %zu, ask %zu, strip %zu bytes\n", deepest.run, deepest.ask, deepest.strip);
     CHECK(deepest.run < FENCE_RUN_STACK);
     CHECK(deepest.ask < FENCE_ASK_STACK);

@@ -99,7 +99,7 @@ TEST_CASE("counts of every size") {
     check_strip(request, 3, 0, 0);
     CHECK(library::strip(written(request), 3, ample).out == written(request));
     for (Number count :
-         {Number{0}, Number{1}, Number{4}, Number{64}, Number{65}, Number{256} + 2, (Number{1} << 16) + 2,
+         {Number{0}, Number{1}, Number{4}, Number{512}, Number{513}, Number{256} + 2, (Number{1} << 16) + 2,
           (Number{1} << 32) + 2, Number{1} << 63, (Number{1} << 63) + 3, ~Number{0}})
         check_strip(request, count, 10, 0);
 }

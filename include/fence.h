@@ -49,8 +49,8 @@
  * The request file. Numbers are little-endian; every record starts with a two-byte mark. Records stand
  * in the order of this table, as many of each as wished, and one EN ends the file.
  *
- *   ND  kind (1), address (1)                        a node     at most 64
- *   ED  from (2), to (2), weight (2)                 an edge    at most 192
+ *   ND  kind (1), address (1)                        a node     at most 512
+ *   ED  from (2), to (2), weight (2)                 an edge    at most 1,024
  *   RU  left kind, variable, right kind, variable    a rule     at most 32
  *   OR  first (2), second (2)                        an order   at most 32
  *   EN
@@ -72,9 +72,9 @@
  *    6  order: a node is missing, the ends are equal, or it stands twice        record
  *    7  the rules lack "any to fence" or "fence to any"                         0
  *    8  ask: there is no order of this number                                   0
- *    9  run: with the fences there would be over 64 nodes or over 192 edges     0
+ *    9  run: with the fences there would be over 512 nodes or over 1,024 edges  0
  *   10  strip: fewer nodes than the count, or one that must stay (see there)    0
- *   11  the lent buffer is too short (ask: below 64 entries)                    0
+ *   11  the lent buffer is too short (ask: below 512 entries)                   0
  */
 #ifndef FENCE_H
 #define FENCE_H
@@ -87,15 +87,20 @@ extern "C" {
 #endif
 
 /* No accepted file is longer, and none is written that is: a buffer of this size is never too short. */
-#define FENCE_MAX_FILE 2178
+#define FENCE_MAX_FILE 10626
 
 /* What fence_ask wants of its buffer, whatever the route: an entry for each node there can be. */
-#define FENCE_ROUTE_ENTRIES 64
+#define FENCE_ROUTE_ENTRIES 512
 
-/* Bytes of stack that a call takes at most. Run's search goes one level deeper for each edge of the cut it tries. */
-#define FENCE_RUN_STACK 524288
-#define FENCE_ASK_STACK 98304
-#define FENCE_STRIP_STACK 16384
+/*
+ * Bytes of stack that a call takes at most. Run's search goes one level deeper for each edge of the cut it
+ * tries and takes 10.5 KB for it; the walk of run and ask takes 5 KB for each node of a route. The 8 MiB that
+ * a main thread mostly has are enough for cuts of 750 edges; where a file may need more, give the thread that
+ * calls run a stack of this size.
+ */
+#define FENCE_RUN_STACK 12582912
+#define FENCE_ASK_STACK 3145728
+#define FENCE_STRIP_STACK 65536
 
 /* What run and strip return. */
 typedef struct {

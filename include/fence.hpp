@@ -58,7 +58,7 @@ struct Refusal {
             "This order names a missing node, or one node twice, or stands twice.",
             "The rules lack wildcard to fence, or fence to wildcard.",
             "There is no order of this number.",
-            "With its fences the graph would pass 64 nodes or 192 edges.",
+            "With its fences the graph would pass 512 nodes or 1,024 edges.",
             "The count is above the nodes, or a node that goes is named by an order or isn't as run adds it.",
             "The lent buffer is too short.",
         };

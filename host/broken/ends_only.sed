@@ -1,3 +1,3 @@
 # file: reference_held.cpp
 # Wrong program 3: a rule is looked for only between the two ends.
-s/ordered = before\[p\]\[m\] && before\[m\]\[q\];/ordered = false;/
+s/const bool by_one_between = (before\[p\] & after\[q\]).any();/const bool by_one_between = false;/

@@ -1,3 +1,3 @@
 # file: plain.cpp
-# 63 nodes and a cut of one edge are refused.
+# 511 nodes and a cut of one edge are refused.
 s/graph.node_count + fences > most_nodes/fences > 0 \&\& graph.node_count + fences >= most_nodes/
