@@ -1,3 +1,3 @@
-# file: plain_walk.cpp
+# file: reference_held.cpp
 # Wrong program 1: variables 1 and 2 mean different addresses.
-s/return !one_variable || left.address == right.address;/return rule.left_variable + rule.right_variable < 2 || one_variable == (left.address == right.address);/
+s/const Assignment address = {0, one, two};/if (rule.right_variable == 2 \&\& one == two) continue; const Assignment address = {0, one, two};/

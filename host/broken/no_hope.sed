@@ -1,3 +1,3 @@
 # file: plain_walk.cpp
 # The walk turns back too early: nodes ordered after the first are never walked on.
-s/const Word allowed = ~visited & ~(after & into_);/const Word allowed = ~visited \& ~after;/
+s/ allowed = ~visited & ~(after & into_);/ allowed = ~visited \& ~after;/
