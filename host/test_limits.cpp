@@ -107,6 +107,19 @@ TEST_CASE("a second run on 512 nodes changes nothing, and strip takes the fences
     }
 }
 
+TEST_CASE("around each multiple of 64, where a set of nodes needs one word more") {
+    for (unsigned words = 1; words < 8; ++words) {
+        for (unsigned n : {64 * words - 1, 64 * words, 64 * words + 1}) {
+            CAPTURE(n);
+            const Request request = packed(n, 2 * n);
+            check_run(request, 0, 0, 1);
+            CHECK(library::ask(written(request), 0, most_nodes).route.size() == n);
+            const Bytes fenced = library::run(written(request), ample).out;
+            CHECK(library::strip(fenced, n, ample).out == written(request));
+        }
+    }
+}
+
 TEST_CASE("a route past a turn that only seems to lead on") {
     for (unsigned n : {1, 2, 20, 56, 57, 504}) {
         const Bytes file = written(doubtful(n));
