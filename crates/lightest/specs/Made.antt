@@ -9,7 +9,7 @@ use Rattle.lightest.specs.declared.Cut.{Cut}
 use Rattle.lightest.specs.declared.Pick.{Pick}
 use Rattle.lightest.specs.Sets.{weigh, Edges}
 
--- "exact because weights are below 2^24"
+-- "exact because weights are below 2^24": 2^26 with 1,024 edges, which weigh at most 67,107,840
 abbrev pub most-weight : ℕ
 most-weight = 67108864
 
