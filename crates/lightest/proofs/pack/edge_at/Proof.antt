@@ -4,9 +4,6 @@ use native.Mathlib.Omega.{arith}
 use borrow.Author.Needs.{needs}
 use Rattle.lightest.proofs.pack.edge_at.Statement.{statement}
 use Rattle.lightest.proofs.pack.edge_at.Tie as tie
-use Rattle.lightest.proofs.pack.edge_at.Reads as reads
-use Rattle.lightest.proofs.pack.edge_at.Lts as lts
-use Rattle.route.proofs.wide.Reads as wide-reads
 
 mul-wide : tie.Need-mul-wide
 mul-wide c = search needs

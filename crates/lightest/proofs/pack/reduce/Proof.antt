@@ -8,9 +8,6 @@ use Rattle.lightest.proofs.Residues.{Taken, taken-none, taken-more}
 use borrow.Author.Needs.{needs}
 use Rattle.lightest.proofs.pack.reduce.Statement.{statement}
 use Rattle.lightest.proofs.pack.reduce.Tie as tie
-use Rattle.lightest.proofs.pack.reduce.Reads as reads
-use Rattle.lightest.proofs.pack.reduce.Lts as lts
-use Rattle.lightest.proofs.pack.edge_at.Reads as edge-at-reads
 
 abbrev Inv-loop : tie.InvT-loop
 Inv-loop edges n left₀ a i₀ left i = (i ≤ n) × Taken edges a left₀ left i

@@ -10,9 +10,6 @@ use Rattle.lightest.proofs.Residues.{under-more}
 use borrow.Author.Needs.{needs}
 use Rattle.lightest.proofs.pack.smallest.Statement.{statement}
 use Rattle.lightest.proofs.pack.smallest.Tie as tie
-use Rattle.lightest.proofs.pack.smallest.Reads as reads
-use Rattle.lightest.proofs.pack.smallest.Lts as lts
-use Rattle.lightest.proofs.pack.edge_at.Reads as edge-at-reads
 
 abbrev Inv-loop : tie.InvT-loop
 Inv-loop edges n left a₀ i₀ a i = (i ≤ n) × ((k : ℕ) → k < i → a ≤ getD left (getD edges k 0) 0) × (((k : ℕ) → k < n → 1 ≤ getD left (getD edges k 0) 0) → 1 ≤ a)
