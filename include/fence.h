@@ -94,8 +94,8 @@ extern "C" {
 
 /*
  * Bytes of stack that a call takes at most. Run's search goes one level deeper for each edge of the cut it
- * tries and takes 10.5 KB for it; the walk of run and ask takes 5 KB for each node of a route. The 8 MiB that
- * a main thread mostly has are enough for cuts of 750 edges; where a file may need more, give the thread that
+ * tries and takes 9.5 KB for it; the walk of run and ask takes 5 KB for each node of a route. The 8 MiB that
+ * a main thread mostly has are enough for cuts of 850 edges; where a file may need more, give the thread that
  * calls run a stack of this size.
  */
 #define FENCE_RUN_STACK 12582912
