@@ -15,6 +15,8 @@ const std::vector<Rule> total_store_order = {{3, 0, 2, 0}, {2, 0, 3, 0}, {0, 1, 
                                              {1, 1, 1, 2}, {1, 1, 0, 2}, {0, 1, 1, 1}};
 const std::vector<Rule> one_address = {{3, 0, 2, 0}, {2, 0, 3, 0}, {0, 1, 0, 1}, {1, 1, 1, 1}, {1, 1, 0, 1}};
 
+const unsigned counts[] = {1, 2, 4, 8, 16, 32};  // of orders
+
 const char *const weight_names[] = {"equal", "by depth", "random"};
 
 std::vector<Edge> weighed(Random &random, const Shape &shape, unsigned weights) {
@@ -38,7 +40,7 @@ bool reaches(const Shape &shape, unsigned from, unsigned to) {
     return seen.count(to) != 0;
 }
 
-// The shape's own orders first, then pairs that some route joins.
+// The shape's own orders first, then pairs that some route joins; one at least.
 std::vector<Order> asked(Random &random, const Shape &shape, unsigned count) {
     std::set<std::pair<unsigned, unsigned>> pairs;
     std::vector<Order> orders;
@@ -48,20 +50,35 @@ std::vector<Order> asked(Random &random, const Shape &shape, unsigned count) {
     };
     for (auto [first, second] : shape.orders) add(first, second);
     const unsigned nodes = static_cast<unsigned>(shape.nodes.size());
-    for (unsigned tries = 0; tries < 20 * count && orders.size() < count; ++tries) {
+    for (unsigned tries = 0; orders.empty() || (tries < 20 * count && orders.size() < count); ++tries) {
         const unsigned first = random.below(nodes), second = random.below(nodes);
         if (reaches(shape, first, second)) add(first, second);
     }
     return orders;
 }
 
-Instance drawn(Random &random, const Family &family, unsigned size, unsigned weights, unsigned orders) {
+Shape built(Random &random, const Family &family, unsigned size) {
     Builder builder(random, size);
     family.build(builder);
-    const Shape shape = builder.shape();
+    return builder.shape();
+}
+
+Instance filled(Random &random, const Family &family, const Shape &shape, unsigned weights, unsigned orders) {
     const std::vector<Rule> &rules = random.chance(50) ? total_store_order : one_address;
     const std::vector<Edge> edges = weighed(random, shape, weights);
     return {family.name, weight_names[weights], {shape.nodes, edges, rules, asked(random, shape, orders)}};
+}
+
+Instance drawn(Random &random, const Family &family, unsigned size, unsigned weights, unsigned orders) {
+    return filled(random, family, built(random, family, size), weights, orders);
+}
+
+// Of the shape's own orders any may be asked, not only those at its start.
+Instance spread(Random &random, const Family &family, unsigned size, unsigned weights, unsigned orders) {
+    Shape shape = built(random, family, size);
+    for (std::size_t i = shape.orders.size(); i > 1; --i)
+        std::swap(shape.orders[i - 1], shape.orders[random.below(i)]);
+    return filled(random, family, shape, weights, orders);
 }
 
 // Each order spans three edges that no other has.
@@ -80,21 +97,41 @@ bool is_one_of(const std::string &name, const std::set<std::string> &names) { re
 }  // namespace
 
 std::vector<Instance> instances(std::uint64_t seed) {
-    static const unsigned sizes[] = {8, 16, 24, 32, 40, 48, 56, 62}, counts[] = {1, 2, 4, 8, 16, 32};
+    static const unsigned sizes[] = {8, 16, 24, 32, 40, 48, 56, 62};
     std::vector<Instance> all;
     Random random(seed);
     for (const Family &family : families())
         for (unsigned size : sizes)
-            for (unsigned i = 0; i < 6; ++i) all.push_back(drawn(random, family, size, i % 3, counts[random.below(6)]));
+            for (unsigned i = 0; i < 6; ++i)
+                all.push_back(drawn(random, family, size, i % 3, counts[random.below(6)]));
     return all;
 }
 
-std::vector<Instance> large(std::uint64_t seed) {
+std::vector<Instance> sixty(std::uint64_t seed) {
     std::vector<Instance> all{line_of_orders(20)};
     Random random(seed);
     for (const Family &family : families())
         if (is_one_of(family.name, {"structured", "classic", "commit"}))
             for (unsigned i = 0; i < 200; ++i) all.push_back(drawn(random, family, 60, 0, 32));
+    return all;
+}
+
+std::vector<Instance> sixty_of_all(std::uint64_t seed) {
+    std::vector<Instance> all;
+    Random random(seed);
+    for (const Family &family : families())
+        for (unsigned i = 0; i < 60; ++i) all.push_back(drawn(random, family, 60, i % 3, counts[i / 3 % 6]));
+    return all;
+}
+
+std::vector<Instance> real(std::uint64_t seed) {
+    static const unsigned sizes[] = {400, 456, 480, 512};
+    std::vector<Instance> all;
+    Random random(seed);
+    for (const Family &family : families())
+        for (unsigned size : sizes)
+            for (unsigned weights = 0; weights < 3; ++weights)
+                all.push_back(spread(random, family, size, weights, counts[random.below(6)]));
     return all;
 }
 

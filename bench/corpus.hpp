@@ -14,12 +14,19 @@ struct Instance {
     reference::Request request;
 };
 
-// Both are the same for the same seed, on every machine. The corpus: all families, sizes, numbers of orders, weights.
+// All are the same for the same seed, on every machine. The corpus: all families, sizes from 8 to 62 nodes, numbers
+// of orders, weights.
 std::vector<Instance> instances(std::uint64_t seed);
 
-// The largest procedures, for which times are promised: 60 nodes, 32 orders, equal weights; and a line of 20 disjoint
-// orders of three edges each, so with 3^20 equal cuts.
-std::vector<Instance> large(std::uint64_t seed);
+// Procedures of 60 nodes for which times are promised: 32 orders, equal weights; and a line of 20 disjoint orders
+// of three edges each, so with 3^20 equal cuts.
+std::vector<Instance> sixty(std::uint64_t seed);
+
+// Procedures of 60 nodes of all families, numbers of orders and weights: to compare two builds.
+std::vector<Instance> sixty_of_all(std::uint64_t seed);
+
+// All families and weights at 400 nodes up to the limit of 512; at the limit a fence has no room any more.
+std::vector<Instance> real(std::uint64_t seed);
 
 }  // namespace corpus
 

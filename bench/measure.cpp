@@ -1,13 +1,17 @@
-// Times run of the library and of the plain version on the corpus, a line for each instance, and writes each
-// instance's cut as an integer program for the solvers.
+// Times ask and run of the library, and run of the plain version, on the corpus, a line for each instance; and
+// writes each instance's cut as an integer program for the solvers.
 //
 //     measure SEED FOLDER      results on standard output; FOLDER/N.lp for each instance with an open order
+#include <sys/wait.h>
+#include <unistd.h>
+
 #include <algorithm>
 #include <chrono>
+#include <csignal>
 #include <cstdio>
 #include <cstdlib>
-#include <cstring>
 #include <functional>
+#include <stdexcept>
 
 #include "corpus.hpp"
 #include "fence.h"
@@ -16,16 +20,33 @@
 
 namespace {
 
-using Call = std::function<fence_report(std::uint8_t *)>;
+using Call = std::function<void()>;
+using reference::Bytes;
 
-// The median of several calls in nanoseconds: more calls where they are short.
-double median_time(const Call &call) {
-    std::uint8_t out[FENCE_MAX_FILE];
+constexpr unsigned limit = 10;  // seconds after which a call of the library is stopped
+
+// Whether a call ends in time: tried in a process of its own, since the searches are exact and may take very long.
+bool ends(const Call &call) {
+    const pid_t child = fork();
+    if (child == 0) {
+        alarm(limit);
+        call();
+        _exit(0);
+    }
+    int status = 0;
+    if (child < 0 || waitpid(child, &status, 0) != child) throw std::runtime_error("no process for a call");
+    if (WIFEXITED(status)) return true;
+    if (WTERMSIG(status) != SIGALRM) throw std::runtime_error("a call of the library ended its process");
+    return false;
+}
+
+// The median of several calls in nanoseconds: more calls where they are short, but not more than `most`.
+double median_time(const Call &call, std::size_t most) {
     std::vector<double> times;
     double total = 0;
-    while (times.size() < 3 || (total < 1e7 && times.size() < 31)) {
+    while (times.size() < 3 || (total < 1e7 && times.size() < most)) {
         const auto start = std::chrono::steady_clock::now();
-        call(out);
+        call();
         const std::chrono::duration<double, std::nano> took = std::chrono::steady_clock::now() - start;
         times.push_back(took.count());
         total += took.count();
@@ -35,25 +56,72 @@ double median_time(const Call &call) {
     return times[times.size() / 2];
 }
 
-bool same(const fence_report &a, const fence_report &b) {
-    return a.answer == b.answer && a.fences == b.fences && a.weight == b.weight && a.length == b.length;
+struct Done {
+    fence_report report;
+    Bytes out;
+    double time;
+};
+
+template <class Run>
+Done done(Run run, const Bytes &file) {
+    Done d{{}, Bytes(FENCE_MAX_FILE), 0};
+    d.time = median_time([&] { d.report = run(file.data(), file.size(), d.out.data(), d.out.size()); }, 31);
+    return d;
+}
+
+bool same(const Done &a, const Done &b) {
+    return a.report.answer == b.report.answer && a.report.fences == b.report.fences &&
+           a.report.weight == b.report.weight && a.report.length == b.report.length && a.out == b.out;
+}
+
+bool is_open(const Bytes &file, std::size_t order) {
+    std::uint16_t route[FENCE_ROUTE_ENTRIES];
+    return fence_ask(file.data(), file.size(), order, route, FENCE_ROUTE_ENTRIES).length > 0;
+}
+
+// What ask says of the orders, as flags, and its times in rising order.
+struct Asked {
+    std::uint32_t open = 0;
+    std::vector<double> times;
+};
+
+Asked ask_all(const Bytes &file, std::size_t orders) {
+    Asked asked;
+    for (std::size_t i = 0; i < orders; ++i) {
+        bool open = false;
+        asked.times.push_back(median_time([&] { open = is_open(file, i); }, 3));
+        asked.open |= std::uint32_t{open} << i;
+    }
+    std::sort(asked.times.begin(), asked.times.end());
+    return asked;
+}
+
+void print_start(const char *set, std::size_t number, const corpus::Instance &instance) {
+    const reference::Request &r = instance.request;
+    std::printf("%zu,%s,%s,%s,%zu,%zu,%zu,", number, set, instance.family.c_str(), instance.weights.c_str(),
+                r.nodes.size(), r.edges.size(), r.orders.size());
 }
 
 // Measures one instance, prints its line, and writes its program. False where library and plain version differ.
 bool measure(const char *set, std::size_t number, const corpus::Instance &instance, const std::string &folder) {
-    const reference::Bytes file = reference::written(instance.request);
-    const Call library = [&](std::uint8_t *out) { return fence_run(file.data(), file.size(), out, FENCE_MAX_FILE); };
-    const Call plain = [&](std::uint8_t *out) { return plain::run(file.data(), file.size(), out, FENCE_MAX_FILE); };
-    std::uint8_t ours[FENCE_MAX_FILE], theirs[FENCE_MAX_FILE];
-    const fence_report report = library(ours), other = plain(theirs);
-    if (!same(report, other) || std::memcmp(ours, theirs, report.length) != 0) return false;
-    const program::Written written = program::write(file, folder + "/" + std::to_string(number) + ".lp");
-    const reference::Request &r = instance.request;
-    std::printf("%zu,%s,%s,%s,%zu,%zu,%zu,%u,%d,%llu,%.0f,%.0f\n", number, set, instance.family.c_str(),
-                instance.weights.c_str(), r.nodes.size(), r.edges.size(), r.orders.size(), written.open,
-                static_cast<int>(report.answer), static_cast<unsigned long long>(written.weight),
-                median_time(library), median_time(plain));
-    std::fflush(stdout);
+    const Bytes file = reference::written(instance.request);
+    const std::size_t orders = instance.request.orders.size();
+    Bytes out(FENCE_MAX_FILE);
+    const Asked asked = ask_all(file, orders);
+    plain::Graph graph;
+    if (plain::read(file.data(), file.size(), graph).answer != 0) return false;
+    if (plain::open_orders(graph) != asked.open) return false;
+    program::write(graph, asked.open, folder + "/" + std::to_string(number) + ".lp");
+    print_start(set, number, instance);
+    std::printf("%d,%.0f,%.0f,", __builtin_popcount(asked.open), asked.times[orders / 2], asked.times.back());
+    if (!ends([&] { fence_run(file.data(), file.size(), out.data(), out.size()); })) {
+        std::printf("1,,,%.0f,\n", limit * 1e9);
+        return true;
+    }
+    const Done ours = done(fence_run, file), theirs = done(plain::run, file);
+    if (!same(ours, theirs)) return false;
+    std::printf("0,%d,%llu,%.0f,%.0f\n", static_cast<int>(ours.report.answer),
+                static_cast<unsigned long long>(plain::chosen(graph, asked.open).weight), ours.time, theirs.time);
     return true;
 }
 
@@ -62,14 +130,20 @@ bool measure(const char *set, std::size_t number, const corpus::Instance &instan
 int main(int arguments, char **argument) {
     if (arguments < 3) return 2;
     const std::uint64_t seed = std::strtoull(argument[1], nullptr, 10);
-    const std::vector<corpus::Instance> all = corpus::instances(seed), large = corpus::large(seed);
-    std::printf("number,set,family,weights,nodes,edges,orders,open,answer,weight,library,plain\n");
-    for (std::size_t i = 0; i < all.size() + large.size(); ++i) {
-        const bool is_large = i >= all.size();
-        const corpus::Instance &instance = is_large ? large[i - all.size()] : all[i];
-        if (measure(is_large ? "large" : "corpus", i, instance, argument[2])) continue;
-        std::fprintf(stderr, "instance %zu: library and plain version differ\n", i);
-        return 1;
+    const std::pair<const char *, std::vector<corpus::Instance>> sets[] = {
+        {"corpus", corpus::instances(seed)}, {"sixty", corpus::sixty(seed)}, {"real", corpus::real(seed)}};
+    std::printf(
+        "number,set,family,weights,nodes,edges,orders,open,ask,ask worst,stopped,answer,weight,library,plain\n");
+    std::size_t number = 0;
+    for (const auto &[name, instances] : sets) {
+        for (const corpus::Instance &instance : instances) {
+            if (!measure(name, number, instance, argument[2])) {
+                std::fprintf(stderr, "instance %zu: library and plain version differ\n", number);
+                return 1;
+            }
+            ++number;
+            std::fflush(stdout);
+        }
     }
     return 0;
 }

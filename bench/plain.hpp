@@ -11,7 +11,10 @@
 
 namespace plain {
 
-constexpr unsigned most_nodes = 64, most_edges = 192, most_rules = 32, most_orders = 32;
+constexpr unsigned most_nodes = 512, most_edges = 1024, most_rules = 32, most_orders = 32;
+
+using Nodes = std::bitset<most_nodes>;
+using Edges = std::bitset<most_edges>;
 
 struct Node {
     std::uint8_t kind, address;
@@ -48,7 +51,6 @@ std::uint32_t open_orders(const Graph &graph);
 std::vector<std::uint64_t> visits(const Graph &graph);
 
 // plain_cut.cpp: the chosen cut for these orders.
-using Edges = std::bitset<most_edges>;
 struct Cut {
     Edges edges;
     std::uint64_t weight = 0;

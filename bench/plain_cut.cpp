@@ -1,6 +1,7 @@
 // The chosen cut in two phases: the least weight, by branching on a route's edges under a bound from packed routes;
 // then the list, edge by edge.
 #include <algorithm>
+#include <numeric>
 
 #include "plain.hpp"
 
@@ -9,7 +10,7 @@ namespace {
 
 struct Path {
     unsigned length = 0;
-    std::uint8_t edges[most_nodes];
+    std::uint16_t edges[most_nodes];
 };
 
 struct Bound {
@@ -23,31 +24,29 @@ struct Found {
     Cut cut;
 };
 
-// The edges at each node, in rising order.
+// The edges to each node, in rising order.
 class Lists {
 public:
-    void count(unsigned node) {
-        for (unsigned n = node + 1; n <= most_nodes; ++n) ++start_[n];
-    }
-    void add(unsigned node, unsigned edge) {
-        edges_[start_[node] + filled_[node]++] = static_cast<std::uint8_t>(edge);
+    explicit Lists(const Graph &graph) {
+        for (unsigned i = 0; i < graph.edge_count; ++i) ++start_[graph.edges[i].to + 1];
+        std::partial_sum(start_, start_ + graph.node_count + 1, start_);
+        std::uint16_t filled[most_nodes] = {};
+        for (unsigned i = 0; i < graph.edge_count; ++i) {
+            const unsigned node = graph.edges[i].to;
+            edges_[start_[node] + filled[node]++] = static_cast<std::uint16_t>(i);
+        }
     }
 
-    const std::uint8_t *begin(unsigned node) const { return edges_ + start_[node]; }
-    const std::uint8_t *end(unsigned node) const { return edges_ + start_[node + 1]; }
+    const std::uint16_t *begin(unsigned node) const { return edges_ + start_[node]; }
+    const std::uint16_t *end(unsigned node) const { return edges_ + start_[node + 1]; }
 
 private:
-    unsigned start_[most_nodes + 1] = {}, filled_[most_nodes] = {};
-    std::uint8_t edges_[most_edges];
+    std::uint16_t start_[most_nodes + 1] = {}, edges_[most_edges];
 };
 
 class Search {
 public:
-    Search(const Graph &graph, std::uint32_t open) : graph_(graph) {
-        for (unsigned i = 0; i < graph.edge_count; ++i) in_.count(graph.edges[i].to);
-        for (unsigned i = 0; i < graph.edge_count; ++i) in_.add(graph.edges[i].to, i);
-        sort_by_distance(open);
-    }
+    Search(const Graph &graph, std::uint32_t open) : graph_(graph), in_(graph) { sort_by_distance(open); }
 
     Cut chosen() const {
         std::uint64_t all = 0;
@@ -72,36 +71,38 @@ public:
     }
 
 private:
-    // A route with the fewest edges among those with something left, found from its end; length 0 where there is none.
-    Path route(const Order &order, const std::uint16_t *left) const {
-        std::uint8_t via[most_nodes], queue[most_nodes];
+    // Finds a route with the fewest edges among those with something left, from its end. Its length; 0 where there
+    // is none.
+    unsigned find(const Order &order, const std::uint16_t *left, Path &path) const {
+        std::uint16_t via[most_nodes], queue[most_nodes];
         std::fill(via, via + graph_.node_count, none);
         unsigned head = 0, tail = 0;
-        queue[tail++] = static_cast<std::uint8_t>(order.second);
+        queue[tail++] = order.second;
         while (head < tail && via[order.first] == none) {
             const unsigned node = queue[head++];
-            for (const std::uint8_t *e = in_.begin(node); e != in_.end(node); ++e) {
-                const unsigned from = graph_.edges[*e].from;
+            for (const std::uint16_t *e = in_.begin(node); e != in_.end(node); ++e) {
+                const std::uint16_t from = graph_.edges[*e].from;
                 if (left[*e] == 0 || via[from] != none || from == order.second) continue;
                 via[from] = *e;
-                queue[tail++] = static_cast<std::uint8_t>(from);
+                queue[tail++] = from;
             }
         }
-        Path path;
-        if (via[order.first] == none) return path;
+        path.length = 0;
+        if (via[order.first] == none) return 0;
         for (unsigned node = order.first; node != order.second; node = graph_.edges[via[node]].to)
             path.edges[path.length++] = via[node];
-        return path;
+        return path.length;
     }
 
     // Short orders first: they leave the bound the fewest edges to choose from.
     void sort_by_distance(std::uint32_t open) {
         unsigned distance[most_orders];
         std::uint16_t left[most_edges];
+        Path path;
         std::fill(left, left + graph_.edge_count, std::uint16_t{1});
         for (unsigned i = 0; i < graph_.order_count; ++i) {
             if (!(open >> i & 1)) continue;
-            distance[i] = route(graph_.orders[i], left).length;
+            distance[i] = find(graph_.orders[i], left, path);
             near_[near_count_++] = i;
         }
         std::stable_sort(near_, near_ + near_count_,
@@ -111,11 +112,12 @@ private:
     // What any cut must still spend: routes are packed as long as no edge bears more than its weight.
     Bound bound(const Cut &cut, std::uint64_t allowance) const {
         Bound result;
+        Path path;
         std::uint16_t *left = result.left;
         for (unsigned i = 0; i < graph_.edge_count; ++i) left[i] = cut.edges[i] ? 0 : graph_.edges[i].weight;
         for (unsigned i = 0; i < near_count_; ++i) {
             const Order &order = graph_.orders[near_[i]];
-            for (Path path = route(order, left); path.length > 0; path = route(order, left)) {
+            while (find(order, left, path) > 0) {
                 if (result.first.length == 0) result.first = path;
                 std::uint16_t pays = 65535;
                 for (unsigned p = 0; p < path.length; ++p) pays = std::min(pays, left[path.edges[p]]);
@@ -147,7 +149,7 @@ private:
         return best;
     }
 
-    static constexpr std::uint8_t none = 255;
+    static constexpr std::uint16_t none = 65535;
     const Graph &graph_;
     Lists in_;
     unsigned near_[most_orders], near_count_ = 0;

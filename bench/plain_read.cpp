@@ -15,18 +15,20 @@ unsigned count(const std::uint8_t *file, std::size_t length, const char *mark, s
 
 bool bad_node(const std::uint8_t *r) { return r[2] > 2 || (r[2] == 2 && r[3] != 0); }
 
-// The bits of a row say which edges or orders from one node there are already.
-bool bad_edge(const std::uint8_t *r, unsigned nodes, std::uint64_t *rows) {
+// For each node the nodes that an edge or order leads to already.
+using Rows = std::vector<Nodes>;
+
+bool bad_edge(const std::uint8_t *r, Rows &rows) {
     const unsigned from = two(r + 2), to = two(r + 4);
-    if (from >= nodes || to >= nodes || two(r + 6) == 0 || (rows[from] >> to & 1)) return true;
-    rows[from] |= std::uint64_t{1} << to;
+    if (from >= rows.size() || to >= rows.size() || two(r + 6) == 0 || rows[from][to]) return true;
+    rows[from].set(to);
     return false;
 }
 
-bool bad_order(const std::uint8_t *r, unsigned nodes, std::uint64_t *rows) {
+bool bad_order(const std::uint8_t *r, Rows &rows) {
     const unsigned first = two(r + 2), second = two(r + 4);
-    if (first >= nodes || second >= nodes || first == second || (rows[first] >> second & 1)) return true;
-    rows[first] |= std::uint64_t{1} << second;
+    if (first >= rows.size() || second >= rows.size() || first == second || rows[first][second]) return true;
+    rows[first].set(second);
     return false;
 }
 
@@ -52,19 +54,20 @@ Refusal too_many(const Counts &c) {
 
 Refusal judge(const std::uint8_t *file, const Counts &c) {
     const std::uint8_t *at = file;
-    std::uint64_t edge_rows[most_nodes] = {}, order_rows[most_nodes] = {}, record = 0;
+    Rows edge_rows(c.nodes), order_rows(c.nodes);
+    std::uint64_t record = 0;
     bool to_fence = false, from_fence = false;
     for (unsigned i = 0; i < c.nodes; ++i, ++record, at += 4)
         if (bad_node(at)) return {3, record};
     for (unsigned i = 0; i < c.edges; ++i, ++record, at += 8)
-        if (bad_edge(at, c.nodes, edge_rows)) return {4, record};
+        if (bad_edge(at, edge_rows)) return {4, record};
     for (unsigned i = 0; i < c.rules; ++i, ++record, at += 6) {
         if (bad_rule(at)) return {5, record};
         to_fence |= at[2] == 3 && at[4] == 2;
         from_fence |= at[2] == 2 && at[4] == 3;
     }
     for (unsigned i = 0; i < c.orders; ++i, ++record, at += 6)
-        if (bad_order(at, c.nodes, order_rows)) return {6, record};
+        if (bad_order(at, order_rows)) return {6, record};
     return {to_fence && from_fence ? 0u : 7u, 0};
 }
 

@@ -7,138 +7,163 @@
 namespace plain {
 namespace {
 
-using Word = std::uint64_t;
+// The lowest node, and most_nodes where there is none.
+unsigned lowest(const Nodes &nodes) { return static_cast<unsigned>(nodes._Find_first()); }
 
-Word bit(unsigned node) { return Word{1} << node; }
-unsigned lowest(Word word) { return static_cast<unsigned>(__builtin_ctzll(word)); }
+// The lowest of those above this one, likewise.
+unsigned higher(const Nodes &nodes, unsigned node) { return static_cast<unsigned>(nodes._Find_next(node)); }
 
-bool side_matches(unsigned kind, const Node &node) { return kind == 3 || kind == node.kind; }
+bool within(const Nodes &part, const Nodes &whole) { return (part & ~whole).none(); }
 
-bool fits(const Rule &rule, const Node &left, const Node &right) {
-    if (!side_matches(rule.left_kind, left) || !side_matches(rule.right_kind, right)) return false;
-    const bool one_variable = rule.left_variable == 1 && rule.right_variable == 1;
-    return !one_variable || left.address == right.address;
-}
+// The nodes of each kind, the last of which stands for any, and those at each address.
+struct Labels {
+    Nodes of_kind[4], at_address[256];
+
+    explicit Labels(const Graph &graph) {
+        for (unsigned i = 0; i < graph.node_count; ++i) {
+            of_kind[graph.nodes[i].kind].set(i);
+            of_kind[3].set(i);
+            at_address[graph.nodes[i].address].set(i);
+        }
+    }
+
+    // The nodes that the rule fits with this one before them.
+    Nodes fitted(const Rule &rule, const Node &left) const {
+        if (rule.left_kind != 3 && rule.left_kind != left.kind) return {};
+        const bool one_variable = rule.left_variable == 1 && rule.right_variable == 1;
+        const Nodes &right = of_kind[rule.right_kind];
+        return one_variable ? right & at_address[left.address] : right;
+    }
+};
 
 // A node that a route can come to, and what is then ordered after the first.
 struct Pair {
     unsigned node;
-    Word after;
+    Nodes after;
 };
 
-constexpr unsigned most_rounds = most_nodes * most_nodes, most_pairs = 8 * most_nodes;
-
-// Brings the words of these nodes down to what is in `word` too. The nodes whose words changed.
-Word lower(Word *least, Word nodes, Word word) {
-    Word fell = 0;
-    for (; nodes != 0; nodes &= nodes - 1) {
-        const unsigned node = lowest(nodes);
-        if ((least[node] & ~word) == 0) continue;
-        least[node] &= word;
-        fell |= bit(node);
-    }
-    return fell;
-}
-
-// What goes on from a pair goes on from one with the same node and no more ordered, too.
-bool known(const Pair *pairs, unsigned count, const Pair &pair) {
-    return std::any_of(pairs, pairs + count,
-                       [&](const Pair &p) { return p.node == pair.node && (p.after & ~pair.after) == 0; });
-}
+constexpr unsigned most_rounds = most_nodes * most_nodes, most_pairs = most_nodes;
 
 class Walk {
 public:
-    explicit Walk(const Graph &graph) {
-        for (unsigned i = 0; i < graph.edge_count; ++i) next_[graph.edges[i].from] |= bit(graph.edges[i].to);
+    explicit Walk(const Graph &graph) : next_(graph.node_count), fits_(graph.node_count), least_(graph.node_count) {
+        pairs_.reserve(most_pairs);
+        for (unsigned i = 0; i < graph.edge_count; ++i) next_[graph.edges[i].from].set(graph.edges[i].to);
+        const Labels labels(graph);
         for (unsigned p = 0; p < graph.node_count; ++p)
-            for (unsigned q = 0; q < graph.node_count; ++q)
-                for (unsigned r = 0; r < graph.rule_count; ++r)
-                    if (fits(graph.rules[r], graph.nodes[p], graph.nodes[q])) fits_[p] |= bit(q);
+            for (unsigned r = 0; r < graph.rule_count; ++r)
+                fits_[p] |= labels.fitted(graph.rules[r], graph.nodes[p]);
     }
 
     bool open(unsigned first, unsigned second) {
         last_ = second;
-        into_ = 0;
+        into_.reset();
         visits_ = 0;
-        for (unsigned p = 0; p < most_nodes; ++p)
-            if (fits_[p] & bit(second)) into_ |= bit(p);
-        return trial(first, bit(first), fits_[first]);
+        for (unsigned p = 0; p < fits_.size(); ++p)
+            if (fits_[p][second]) into_.set(p);
+        const Nodes visited = Nodes().set(first);
+        return hopeful(first, visited, fits_[first]) && trial(first, visited, fits_[first]);
     }
 
     std::uint64_t visits() const { return visits_; }  // for the order that was asked last
 
 private:
     // What is ordered after the first once the route has gone on to this node.
-    Word marked(Word after, unsigned node) const { return after & bit(node) ? after | fits_[node] : after; }
+    Nodes marked(const Nodes &after, unsigned node) const { return after[node] ? after | fits_[node] : after; }
 
     // The nodes that come next, are not visited and would not order the last.
-    Word live(unsigned at, Word visited, Word after) const {
-        const Word allowed = ~visited & ~(after & into_);
+    Nodes live(unsigned at, const Nodes &visited, const Nodes &after) const {
+        const Nodes allowed = ~visited & ~(after & into_);
         return next_[at] & allowed;
     }
 
+    // Brings the sets of these nodes down to what is in `after` too; one that is not met yet has none so far. The
+    // nodes whose sets changed.
+    Nodes lower(const Nodes &met, const Nodes &nodes, const Nodes &after) {
+        Nodes fell;
+        for (unsigned node = lowest(nodes); node < most_nodes; node = higher(nodes, node)) {
+            if (met[node] && within(least_[node], after)) continue;
+            least_[node] = met[node] ? least_[node] & after : after;
+            fell.set(node);
+        }
+        return fell;
+    }
+
     // May a route go on from here to the last node and leave its ends unordered? Where this is false none does. For
-    // each node `least` has what is ordered after the first on every way there over live nodes.
-    bool hopeful(unsigned at, Word visited, Word after) const {
-        if (after & bit(last_)) return false;
-        Word least[most_nodes];
-        std::fill_n(least, most_nodes, ~Word{0});
-        Word left = lower(least, live(at, visited, after), after);
+    // each node that is met `least_` has what is ordered after the first on every way there over live nodes.
+    bool hopeful(unsigned at, const Nodes &visited, const Nodes &after) {
+        if (after[last_]) return false;
+        Nodes left = lower({}, live(at, visited, after), after), met = left;
         for (unsigned round = 0; round < most_rounds; ++round) {
-            if (!(least[last_] & bit(last_))) return true;
-            if (left == 0) return false;
+            if (met[last_] && !least_[last_][last_]) return true;
             const unsigned node = lowest(left);
-            const Word then = marked(least[node], node);
-            left &= left - 1;
-            left |= lower(least, live(node, visited, then), then);
+            if (node == most_nodes) return false;
+            const Nodes then = marked(least_[node], node), fell = lower(met, live(node, visited, then), then);
+            met |= fell;
+            left.reset(node);
+            left |= fell;
         }
         return true;
     }
 
-    // The same, sharper and slower: all pairs that can come of this one. Walks do for routes here, since coming
-    // back to a node orders no less. True, too, where there are too many pairs.
-    bool some_way(unsigned at, Word visited, Word after) const {
-        Pair pairs[most_pairs];
-        pairs[0] = {at, after};
-        unsigned count = 1;
-        for (unsigned i = 0; i < count; ++i) {
-            for (Word left = next_[pairs[i].node] & ~visited; left != 0; left &= left - 1) {
-                const unsigned node = lowest(left);
-                const Pair pair = {node, marked(pairs[i].after, node)};
-                if (pair.after & bit(last_)) continue;
+    // What goes on from a pair goes on from one with the same node and no more ordered, too.
+    bool known(const Pair &pair) const {
+        return std::any_of(pairs_.begin(), pairs_.end(),
+                           [&](const Pair &p) { return p.node == pair.node && within(p.after, pair.after); });
+    }
+
+    // The same as `hopeful`, sharper and slower: all pairs that can come of this one. Walks do for routes here,
+    // since coming back to a node orders no less. True, too, where there are too many pairs.
+    bool some_way(unsigned at, const Nodes &visited, const Nodes &after) {
+        pairs_.assign(1, {at, after});
+        for (std::size_t i = 0; i < pairs_.size(); ++i) {
+            const Nodes next = next_[pairs_[i].node] & ~visited, ordered = pairs_[i].after;
+            for (unsigned node = lowest(next); node < most_nodes; node = higher(next, node)) {
+                const Pair pair = {node, marked(ordered, node)};
+                if (pair.after[last_]) continue;
                 if (node == last_) return true;
-                if (known(pairs, count, pair)) continue;
-                if (count == most_pairs) return true;
-                pairs[count++] = pair;
+                if (known(pair)) continue;
+                if (pairs_.size() == most_pairs) return true;
+                pairs_.push_back(pair);
             }
         }
         return false;
     }
 
-    // Is no way on left, now that the one over `failed` has failed? Worth the longer look only where `hopeful` did
-    // not foresee that.
-    bool lost(unsigned at, Word visited, Word after, unsigned failed) const {
-        return hopeful(failed, visited | bit(failed), marked(after, failed)) && !some_way(at, visited, after);
+    // Is there something to choose here?
+    bool branches(unsigned at, const Nodes &visited) const {
+        const Nodes next = next_[at] & ~visited;
+        const unsigned node = lowest(next);
+        return node < most_nodes && higher(next, node) < most_nodes;
     }
 
-    bool visit(unsigned at, Word visited, Word after) {
+    // Is no way on left, now that the one over `failed` has failed? Worth the longer look only where `hopeful` did
+    // not foresee that.
+    bool lost(unsigned at, const Nodes &visited, const Nodes &after, unsigned failed) {
+        return branches(at, visited) && hopeful(failed, Nodes(visited).set(failed), marked(after, failed)) &&
+               !some_way(at, visited, after);
+    }
+
+    bool visit(unsigned at, const Nodes &visited, const Nodes &after) {
         ++visits_;
-        if (at == last_) return !(after & bit(at));
-        return trial(at, visited | bit(at), marked(after, at));
+        if (at == last_) return !after[at];
+        return trial(at, Nodes(visited).set(at), marked(after, at));
     }
 
     // Tries the edges of the last node on the route so far, that to the lowest node first.
-    bool trial(unsigned at, Word visited, Word after) {
-        if (!hopeful(at, visited, after)) return false;
-        for (Word left = next_[at] & ~visited; left != 0; left &= left - 1) {
-            const unsigned node = lowest(left);
+    bool trial(unsigned at, const Nodes &visited, const Nodes &after) {
+        if (branches(at, visited) && !hopeful(at, visited, after)) return false;
+        const Nodes next = next_[at] & ~visited;
+        for (unsigned node = lowest(next); node < most_nodes; node = higher(next, node)) {
             if (visit(node, visited, after)) return true;
             if (lost(at, visited, after, node)) return false;
         }
         return false;
     }
 
-    Word next_[most_nodes] = {}, fits_[most_nodes] = {}, into_ = 0;
+    std::vector<Nodes> next_, fits_, least_;
+    std::vector<Pair> pairs_;
+    Nodes into_;
     unsigned last_ = 0;
     std::uint64_t visits_ = 0;
 };

@@ -3,36 +3,33 @@
 #include "program.hpp"
 
 #include <cstdio>
-#include <set>
-
-#include "plain.hpp"
 
 namespace program {
 namespace {
 
-using Nodes = std::set<unsigned>;
-
-Nodes closure(const plain::Graph &g, unsigned start, bool forward) {
-    Nodes seen{start};
+plain::Nodes closure(const plain::Graph &g, unsigned start, bool forward) {
+    plain::Nodes seen;
+    seen.set(start);
     for (bool grown = true; grown;) {
         grown = false;
         for (unsigned i = 0; i < g.edge_count; ++i) {
             const unsigned from = forward ? g.edges[i].from : g.edges[i].to,
                            to = forward ? g.edges[i].to : g.edges[i].from;
-            if (seen.count(from) && seen.insert(to).second) grown = true;
+            if (!seen[from] || seen[to]) continue;
+            seen.set(to);
+            grown = true;
         }
     }
     return seen;
 }
 
 // Only edges between the order's nodes count: the solvers get the smaller program.
-void put_order(std::FILE *out, const plain::Graph &g, unsigned number, std::set<unsigned> &edges) {
+void put_order(std::FILE *out, const plain::Graph &g, unsigned number) {
     const plain::Order order = g.orders[number];
-    const Nodes after = closure(g, order.first, true), before = closure(g, order.second, false);
+    const plain::Nodes after = closure(g, order.first, true), before = closure(g, order.second, false);
     for (unsigned i = 0; i < g.edge_count; ++i) {
         const plain::Edge &e = g.edges[i];
-        if (!after.count(e.from) || !before.count(e.to) || e.from == e.to) continue;
-        edges.insert(i);
+        if (!after[e.from] || !before[e.to] || e.from == e.to) continue;
         std::fprintf(out, " c%u_%u: x%u", number, i, i);
         if (e.to != order.first && e.to != order.second) std::fprintf(out, " - h%u_%u", number, e.to);
         if (e.from != order.first && e.from != order.second) std::fprintf(out, " + h%u_%u", number, e.from);
@@ -42,25 +39,19 @@ void put_order(std::FILE *out, const plain::Graph &g, unsigned number, std::set<
 
 }  // namespace
 
-Written write(const reference::Bytes &file, const std::string &path) {
-    plain::Graph graph;
-    if (plain::read(file.data(), file.size(), graph).answer != 0) return {0, 0};
-    const std::uint32_t open = plain::open_orders(graph);
-    const Written written{static_cast<unsigned>(__builtin_popcount(open)), plain::chosen(graph, open).weight};
-    if (open == 0) return written;
+void write(const plain::Graph &graph, std::uint32_t open, const std::string &path) {
+    if (open == 0) return;
     std::FILE *out = std::fopen(path.c_str(), "w");
-    if (out == nullptr) return written;
+    if (out == nullptr) return;
     std::fprintf(out, "Minimize\n cost:");
     for (unsigned i = 0; i < graph.edge_count; ++i) std::fprintf(out, " + %u x%u\n", graph.edges[i].weight, i);
     std::fprintf(out, "Subject To\n");
-    std::set<unsigned> edges;
     for (unsigned i = 0; i < graph.order_count; ++i)
-        if (open >> i & 1) put_order(out, graph, i, edges);
+        if (open >> i & 1) put_order(out, graph, i);
     std::fprintf(out, "Binary\n");
     for (unsigned i = 0; i < graph.edge_count; ++i) std::fprintf(out, " x%u\n", i);
     std::fprintf(out, "End\n");
     std::fclose(out);
-    return written;
 }
 
 }  // namespace program

@@ -4,16 +4,12 @@
 
 #include <string>
 
-#include "reference.hpp"
+#include "plain.hpp"
 
 namespace program {
 
-struct Written {
-    unsigned open;         // open orders; with none no file is written
-    std::uint64_t weight;  // of the chosen cut, which the solvers must find too
-};
-
-Written write(const reference::Bytes &file, const std::string &path);
+// For the orders flagged as open; with none no file is written.
+void write(const plain::Graph &graph, std::uint32_t open, const std::string &path);
 
 }  // namespace program
 

@@ -5,8 +5,11 @@
 
 namespace corpus {
 
+// So many that fences have room below the limit of 1,024.
+constexpr std::size_t most_edges = 960;
+
 void Builder::edge(unsigned from, unsigned to) {
-    if (shape_.edges.size() < 180 && pairs_.insert({from, to}).second) shape_.edges.push_back({from, to});
+    if (shape_.edges.size() < most_edges && pairs_.insert({from, to}).second) shape_.edges.push_back({from, to});
 }
 
 unsigned Builder::step(unsigned kind, unsigned address) {

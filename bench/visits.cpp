@@ -1,8 +1,8 @@
 // Counts the visits of the walk for every ordered pair of nodes of drawn graphs, and prints a row for each family
 // of shapes and set of rules, as a Markdown table.
 //
-//     visits SEED [GRAPHS]                 GRAPHS for each density of fences and number of addresses; 10 if not given
-//     visits SEED GRAPHS FAMILY RULES      one row alone, by its names in the table: for longer draws
+//     visits SEED [GRAPHS]                 GRAPHS for each density of fences and number of addresses; 10 if not
+//     given visits SEED GRAPHS FAMILY RULES      one row alone, by its names in the table: for longer draws
 #include <algorithm>
 #include <cstdio>
 #include <cstdlib>
@@ -30,19 +30,21 @@ const Rules rule_sets[] = {
 const unsigned densities[] = {0, 2, 10, 25};  // fences in 100 nodes
 const unsigned addresses[] = {4, 16, 64, 200};
 
+constexpr std::size_t most_edges = 192;
+
 // A shape without labels. Its edges are put in while there is room, and once.
 struct Drawn {
     unsigned nodes;
     std::set<std::pair<unsigned, unsigned>> edges;
 
     void edge(unsigned from, unsigned to) {
-        if (edges.size() < plain::most_edges) edges.insert({from, to});
+        if (edges.size() < most_edges) edges.insert({from, to});
     }
 };
 
 Drawn sparse(Random &random) {
     Drawn drawn{64, {}};
-    while (drawn.edges.size() < plain::most_edges) {
+    while (drawn.edges.size() < most_edges) {
         const unsigned from = random.below(64), to = random.below(64);
         if (from != to) drawn.edge(from, to);
     }
@@ -62,7 +64,7 @@ Drawn nest(Random &random) {
     Drawn drawn{64, {}};
     for (unsigned i = 0; i < 63; ++i) drawn.edge(i, i + 1);
     std::vector<Loop> loops;
-    for (unsigned tries = 0; tries < 20000 && drawn.edges.size() < plain::most_edges; ++tries) {
+    for (unsigned tries = 0; tries < 20000 && drawn.edges.size() < most_edges; ++tries) {
         const unsigned head = random.below(62), end = head + random.between(2, 40);
         const auto crossed = [&](const Loop &loop) { return cross(loop, {head, end}); };
         if (end > 63 || std::any_of(loops.begin(), loops.end(), crossed)) continue;
