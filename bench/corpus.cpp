@@ -116,11 +116,12 @@ std::vector<Instance> sixty(std::uint64_t seed) {
     return all;
 }
 
-std::vector<Instance> sixty_of_all(std::uint64_t seed) {
+std::vector<Instance> sixty_of_all(std::uint64_t seed, unsigned orders) {
     std::vector<Instance> all;
     Random random(seed);
     for (const Family &family : families())
-        for (unsigned i = 0; i < 60; ++i) all.push_back(drawn(random, family, 60, i % 3, counts[i / 3 % 6]));
+        for (unsigned i = 0; i < 60; ++i)
+            all.push_back(drawn(random, family, 60, i % 3, orders != 0 ? orders : counts[i / 3 % 6]));
     return all;
 }
 
@@ -129,9 +130,7 @@ std::vector<Instance> real(std::uint64_t seed) {
     std::vector<Instance> all;
     Random random(seed);
     for (const Family &family : families())
-        for (unsigned size : sizes)
-            for (unsigned weights = 0; weights < 3; ++weights)
-                all.push_back(spread(random, family, size, weights, counts[random.below(6)]));
+        for (unsigned i = 0; i < 18; ++i) all.push_back(spread(random, family, sizes[i % 4], i % 3, counts[i / 3]));
     return all;
 }
 

@@ -1,7 +1,10 @@
 // Times ask and run of the library, and run of the plain version, on the corpus, a line for each instance; and
 // writes each instance's cut as an integer program for the solvers.
 //
-//     measure SEED FOLDER      results on standard output; FOLDER/N.lp for each instance with an open order
+//     measure SEED FOLDER LIMIT
+//
+// Results go to standard output, and to FOLDER/N.lp for each instance with an open order. A run of the library is
+// stopped after LIMIT seconds.
 #include <sys/wait.h>
 #include <unistd.h>
 
@@ -23,10 +26,8 @@ namespace {
 using Call = std::function<void()>;
 using reference::Bytes;
 
-constexpr unsigned limit = 10;  // seconds after which a call of the library is stopped
-
-// Whether a call ends in time: tried in a process of its own, since the searches are exact and may take very long.
-bool ends(const Call &call) {
+// Whether a call ends in so many seconds: tried in a process of its own, since an exact search may take very long.
+bool ends(const Call &call, unsigned limit) {
     const pid_t child = fork();
     if (child == 0) {
         alarm(limit);
@@ -103,18 +104,17 @@ void print_start(const char *set, std::size_t number, const corpus::Instance &in
 }
 
 // Measures one instance, prints its line, and writes its program. False where library and plain version differ.
-bool measure(const char *set, std::size_t number, const corpus::Instance &instance, const std::string &folder) {
+bool measure(const corpus::Instance &instance, const std::string &path, unsigned limit) {
     const Bytes file = reference::written(instance.request);
-    const std::size_t orders = instance.request.orders.size();
     Bytes out(FENCE_MAX_FILE);
-    const Asked asked = ask_all(file, orders);
+    const Asked asked = ask_all(file, instance.request.orders.size());
     plain::Graph graph;
     if (plain::read(file.data(), file.size(), graph).answer != 0) return false;
     if (plain::open_orders(graph) != asked.open) return false;
-    program::write(graph, asked.open, folder + "/" + std::to_string(number) + ".lp");
-    print_start(set, number, instance);
-    std::printf("%d,%.0f,%.0f,", __builtin_popcount(asked.open), asked.times[orders / 2], asked.times.back());
-    if (!ends([&] { fence_run(file.data(), file.size(), out.data(), out.size()); })) {
+    program::write(graph, asked.open, path);
+    std::printf("%d,%.0f,%.0f,", __builtin_popcount(asked.open), asked.times[asked.times.size() / 2],
+                asked.times.back());
+    if (!ends([&] { fence_run(file.data(), file.size(), out.data(), out.size()); }, limit)) {
         std::printf("1,,,%.0f,\n", limit * 1e9);
         return true;
     }
@@ -128,8 +128,10 @@ bool measure(const char *set, std::size_t number, const corpus::Instance &instan
 }  // namespace
 
 int main(int arguments, char **argument) {
-    if (arguments < 3) return 2;
+    if (arguments < 4) return 2;
     const std::uint64_t seed = std::strtoull(argument[1], nullptr, 10);
+    const std::string folder = argument[2];
+    const unsigned limit = static_cast<unsigned>(std::strtoul(argument[3], nullptr, 10));
     const std::pair<const char *, std::vector<corpus::Instance>> sets[] = {
         {"corpus", corpus::instances(seed)}, {"sixty", corpus::sixty(seed)}, {"real", corpus::real(seed)}};
     std::printf(
@@ -137,12 +139,13 @@ int main(int arguments, char **argument) {
     std::size_t number = 0;
     for (const auto &[name, instances] : sets) {
         for (const corpus::Instance &instance : instances) {
-            if (!measure(name, number, instance, argument[2])) {
+            print_start(name, number, instance);
+            if (!measure(instance, folder + "/" + std::to_string(number) + ".lp", limit)) {
                 std::fprintf(stderr, "instance %zu: library and plain version differ\n", number);
                 return 1;
             }
-            ++number;
             std::fflush(stdout);
+            ++number;
         }
     }
     return 0;

@@ -15,26 +15,33 @@ unsigned higher(const Nodes &nodes, unsigned node) { return static_cast<unsigned
 
 bool within(const Nodes &part, const Nodes &whole) { return (part & ~whole).none(); }
 
-// The nodes of each kind, the last of which stands for any, and those at each address.
-struct Labels {
-    Nodes of_kind[4], at_address[256];
+template <class Test>
+Nodes nodes_where(const Graph &graph, Test test) {
+    Nodes nodes;
+    for (unsigned i = 0; i < graph.node_count; ++i)
+        if (test(graph.nodes[i])) nodes.set(i);
+    return nodes;
+}
 
-    explicit Labels(const Graph &graph) {
-        for (unsigned i = 0; i < graph.node_count; ++i) {
-            of_kind[graph.nodes[i].kind].set(i);
-            of_kind[3].set(i);
-            at_address[graph.nodes[i].address].set(i);
+bool side_matches(unsigned kind, const Node &node) { return kind == 3 || kind == node.kind; }
+
+// For each node the nodes that some rule fits with it before them.
+std::vector<Nodes> fits_of(const Graph &graph) {
+    std::vector<Nodes> fits(graph.node_count), rights;
+    for (unsigned r = 0; r < graph.rule_count; ++r)
+        rights.push_back(
+            nodes_where(graph, [&](const Node &node) { return side_matches(graph.rules[r].right_kind, node); }));
+    for (unsigned p = 0; p < graph.node_count; ++p) {
+        const Node left = graph.nodes[p];
+        const Nodes close = nodes_where(graph, [&](const Node &node) { return node.address == left.address; });
+        for (unsigned r = 0; r < graph.rule_count; ++r) {
+            const Rule &rule = graph.rules[r];
+            const bool one_variable = rule.left_variable == 1 && rule.right_variable == 1;
+            if (side_matches(rule.left_kind, left)) fits[p] |= one_variable ? rights[r] & close : rights[r];
         }
     }
-
-    // The nodes that the rule fits with this one before them.
-    Nodes fitted(const Rule &rule, const Node &left) const {
-        if (rule.left_kind != 3 && rule.left_kind != left.kind) return {};
-        const bool one_variable = rule.left_variable == 1 && rule.right_variable == 1;
-        const Nodes &right = of_kind[rule.right_kind];
-        return one_variable ? right & at_address[left.address] : right;
-    }
-};
+    return fits;
+}
 
 // A node that a route can come to, and what is then ordered after the first.
 struct Pair {
@@ -46,13 +53,8 @@ constexpr unsigned most_rounds = most_nodes * most_nodes, most_pairs = most_node
 
 class Walk {
 public:
-    explicit Walk(const Graph &graph) : next_(graph.node_count), fits_(graph.node_count), least_(graph.node_count) {
-        pairs_.reserve(most_pairs);
+    explicit Walk(const Graph &graph) : next_(graph.node_count), fits_(fits_of(graph)), least_(graph.node_count) {
         for (unsigned i = 0; i < graph.edge_count; ++i) next_[graph.edges[i].from].set(graph.edges[i].to);
-        const Labels labels(graph);
-        for (unsigned p = 0; p < graph.node_count; ++p)
-            for (unsigned r = 0; r < graph.rule_count; ++r)
-                fits_[p] |= labels.fitted(graph.rules[r], graph.nodes[p]);
     }
 
     bool open(unsigned first, unsigned second) {

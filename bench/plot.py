@@ -9,10 +9,10 @@ SERIES = (("cbc", "#b2591f"), ("glpsol", "#8a7a00"), ("library", "#1f5fb2"), ("p
 def scales(rows):
     times = [row[name] for row in rows for name, _ in SERIES if name in row]
     low, high = math.floor(math.log10(min(times))), math.ceil(math.log10(max(times)))
-    most = max(row["nodes"] for row in rows)
-    x = lambda nodes: LEFT + (WIDTH - LEFT - RIGHT) * nodes / most
+    least, most = (f(row["nodes"] for row in rows) for f in (min, max))
+    x = lambda nodes: LEFT + (WIDTH - LEFT - RIGHT) * math.log(nodes / least) / math.log(most / least)
     y = lambda time: HEIGHT - BOTTOM - (HEIGHT - TOP - BOTTOM) * (math.log10(time) - low) / (high - low)
-    return x, y, range(low, high + 1), most
+    return x, y, range(low, high + 1), least, most
 
 
 def text(x, y, words, anchor="middle", colour="#333"):
@@ -25,14 +25,16 @@ def label(power):
             return f"{10 ** (power - size)} {unit}"
 
 
-def axes(x, y, powers, most):
+def axes(x, y, powers, least, most):
     parts = []
     for power in powers:
         at = y(10.0 ** power)
         parts.append(f'<line x1="{LEFT}" x2="{WIDTH - RIGHT}" y1="{at:.1f}" y2="{at:.1f}" stroke="#ddd"/>')
         parts.append(text(LEFT - 8, at + 4, label(power), "end"))
-    for nodes in range(0, most + 1, 8):
+    nodes = least
+    while nodes <= most:
         parts.append(text(x(nodes), HEIGHT - BOTTOM + 18, nodes))
+        nodes *= 2
     parts.append(text((LEFT + WIDTH - RIGHT) / 2, HEIGHT - 10, "nodes of the graph"))
     return parts
 
@@ -59,12 +61,12 @@ def legend(names_at):
 
 
 def plot(rows, note):
-    x, y, powers, most = scales(rows)
+    x, y, powers, least, most = scales(rows)
     parts = [f'<svg xmlns="http://www.w3.org/2000/svg" viewBox="0 0 {WIDTH} {HEIGHT}" '
              'font-family="sans-serif" font-size="12">',
              f'<rect width="{WIDTH}" height="{HEIGHT}" fill="white"/>',
              text(LEFT, TOP - 12, f"time of one run (solvers: one process){note}", "start")]
-    parts += axes(x, y, powers, most)
+    parts += axes(x, y, powers, least, most)
     names_at = []
     for name, colour in SERIES:
         last = [row[name] for row in rows if name in row and row["nodes"] == most]

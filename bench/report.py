@@ -1,63 +1,17 @@
 #!/usr/bin/env python3
-"""Runs the solvers on the integer programs that `measure` wrote, and makes the table and the plot.
+"""Makes the table and the plot out of what `measure` told, with the solvers' times.
 
-    report.py RESULTS FOLDER WHERE TABLE PLOT
+    report.py RESULTS FOLDER LIMIT WHERE TABLE PLOT
 
-RESULTS is what `measure` printed, FOLDER where it wrote the programs. WHERE says in words where ours ran.
+RESULTS is what `measure` printed, FOLDER where it wrote the programs, LIMIT the seconds that it gave a run of the
+library. WHERE says in words where ours ran.
 """
 import csv
-import os
 import statistics
-import subprocess
 import sys
-import time
 
 from plot import plot
-
-LIMIT = 60  # seconds that a solver gets for one program
-
-
-def glpsol(program, answer):
-    command = ["glpsol", "--tmlim", str(LIMIT), "--lp", program, "--write", answer]
-    took = timed(command)
-    with open(answer) as lines:
-        told = next(line.split() for line in lines if line.startswith("s "))
-    return took, float(told[5]) if told[4] == "o" else None
-
-
-def cbc(program, answer):
-    took = timed(["cbc", program, "sec", str(LIMIT), "solve", "solu", answer])
-    with open(answer) as lines:
-        first = lines.readline()
-    return took, float(first.split()[-1]) if first.startswith("Optimal") else None
-
-
-def timed(command):
-    start = time.perf_counter()
-    subprocess.run(command, check=True, stdout=subprocess.DEVNULL, stderr=subprocess.DEVNULL)
-    return (time.perf_counter() - start) * 1e9
-
-
-def solve(rows, folder):
-    """Adds each solver's time to the rows. A solver that found another weight ends the run."""
-    for row in rows:
-        program = os.path.join(folder, f"{row['number']}.lp")
-        for name, solver in (("glpsol", glpsol), ("cbc", cbc)):
-            if int(row["open"]) == 0:
-                continue
-            took, weight = solver(program, os.path.join(folder, "answer"))
-            if weight is not None and round(weight) != int(row["weight"]):
-                sys.exit(f"instance {row['number']}: {name} finds weight {weight}, the library {row['weight']}")
-            row[name] = took
-
-
-def trivial(folder):
-    """What a solver takes for next to nothing: starting the process and reading a file of four lines."""
-    program = os.path.join(folder, "trivial.lp")
-    with open(program, "w") as out:
-        out.write("Minimize\n cost: + 1 x0\nSubject To\n c: x0 >= 1\nBinary\n x0\nEnd\n")
-    answer = os.path.join(folder, "answer")
-    return {s.__name__: statistics.median(s(program, answer)[0] for _ in range(9)) for s in (glpsol, cbc)}
+from solvers import LIMITS, SOLVERS, solve, trivial
 
 
 def milliseconds(nanoseconds):
@@ -69,19 +23,30 @@ def ratio(value):
     return f"{value:.2f}" if value < 10 else f"{value:.0f}"
 
 
+def column(rows, name):
+    return [row[name] for row in rows if name in row]
+
+
 def over(rows, name, base):
-    return [row[name] / row[base] for row in rows if name in row]
+    return [row[name] / row[base] for row in rows if name in row and base in row]
+
+
+def cells_line(cells):
+    return "| " + " | ".join(cells) + " |"
+
+
+def solver_ratios(rows, solver):
+    ratios = over(rows, solver, "library")
+    return [ratio(statistics.median(ratios)), ratio(min(ratios))] if ratios else ["", ""]
 
 
 def line(name, rows):
-    ours, plain = [r["library"] for r in rows], [r["plain"] for r in rows]
     cells = [name, str(len(rows))]
-    cells += [milliseconds(f(times)) for times in (ours, plain) for f in (statistics.median, max)]
+    cells += [milliseconds(f(column(rows, who))) for who in ("library", "plain") for f in (statistics.median, max)]
     cells += [ratio(f(over(rows, "library", "plain"))) for f in (statistics.median, max)]
-    for solver in ("glpsol", "cbc"):
-        ratios = over(rows, solver, "library")
-        cells += [ratio(statistics.median(ratios)), ratio(min(ratios))] if ratios else ["", ""]
-    return "| " + " | ".join(cells) + " |"
+    for solver in SOLVERS:
+        cells += solver_ratios(rows, solver)
+    return cells_line(cells)
 
 
 def groups(rows, key):
@@ -97,58 +62,125 @@ ASKED = {"line": "20 disjoint orders on a line, 3^20 equal cuts: milliseconds",
          "commit": "a commit procedure: none above 5"}
 
 
-def large_table(rows):
-    """The largest procedures, beside what is asked for."""
-    text = ["| asked for, in milliseconds | files | library median | 99 of 100 | worst | plain worst | library/plain worst |",
-            "|---|" + "---:|" * 6]
+def head_of(columns):
+    return ["| " + columns + " |", "|---|" + "---:|" * columns.count("|")]
+
+
+def sixty_table(rows):
+    """Procedures of 60 nodes, beside what is asked for."""
+    text = head_of("asked for, in milliseconds | files | library median | 99 of 100 | worst | plain worst "
+                   "| library/plain worst")
     for name, group in groups(rows, "family"):
-        ours = sorted(row["library"] for row in group)
-        cells = [ASKED[name], str(len(group)), milliseconds(statistics.median(ours)),
-                 milliseconds(ours[max(0, len(ours) * 99 // 100 - 1)]), milliseconds(ours[-1]),
-                 milliseconds(max(row["plain"] for row in group)), ratio(max(over(group, "library", "plain")))]
-        text.append("| " + " | ".join(cells) + " |")
+        ours = sorted(column(group, "library"))
+        text.append(cells_line([ASKED[name], str(len(group)), milliseconds(statistics.median(ours)),
+                                milliseconds(ours[max(0, len(ours) * 99 // 100 - 1)]), milliseconds(ours[-1]),
+                                milliseconds(max(column(group, "plain"))),
+                                ratio(max(over(group, "library", "plain")))]))
     return text
 
 
-def table(rows, large, base, where):
-    head = ["| family | files | library median | worst | plain median | worst | library/plain median | worst "
-            "| glpsol/library median | least | cbc/library median | least |", "|---|" + "---:|" * 11]
-    text = ["# Times of run", "", "Made by `bench/run.sh`, from one run. Times are in milliseconds for one call.", ""]
-    text += [where, "",
-             "The solvers get the same cut as an integer program, find its weight only (no tie rule), and are timed as",
-             f"processes; starting one costs {milliseconds(base['glpsol'])} ms (glpsol) and "
-             f"{milliseconds(base['cbc'])} ms (cbc) of that.", "",
-             "The plain version was fitted to the library: it takes routes in the library's order and drops the same edges",
-             "from a branch, so that both search the same tree and the ratio is that of the code, not of the search.",
-             ""]
-    text += head + [line(name, group) for name, group in groups(rows, "family")] + [line("all", rows)]
-    text += [""] + [head[0].replace("family", "weights", 1), head[1]]
+def real_line(name, rows):
+    worst = "stopped" if any(column(rows, "stopped")) else milliseconds(max(column(rows, "library")))
+    cells = [name, str(len(rows)), milliseconds(statistics.median(column(rows, "ask"))),
+             milliseconds(max(column(rows, "ask worst"))), milliseconds(statistics.median(column(rows, "library"))),
+             worst, ratio(statistics.median(over(rows, "library", "plain")))]
+    for solver in SOLVERS:
+        times = column(rows, solver)
+        cells += [milliseconds(statistics.median(times)) if times else ""] + solver_ratios(rows, solver)
+    return cells_line(cells)
+
+
+def named(row):
+    return (f"{row['family']}, {row['nodes']} nodes, {row['orders']} orders ({row['open']} open), "
+            f"weights {row['weights']}")
+
+
+def took(row, name):
+    """A time; that of a stopped call is only known to be above it."""
+    cut_short = row["stopped" if name == "library" else name + " stopped"]
+    return f"{name} {'over ' if cut_short else ''}{milliseconds(row[name])} ms"
+
+
+def ahead(rows):
+    """The files that a solver was done with before the library."""
+    text = []
+    for row in rows:
+        quicker = [s for s in SOLVERS if s in row and row[s] < row["library"]]
+        if quicker:
+            text.append(f"- {named(row)}: " + ", ".join(took(row, name) for name in ["library"] + quicker))
+    return text
+
+
+def stopped(rows):
+    """How many calls of each kind were stopped."""
+    kinds = [("run", "stopped")] + [(name, name + " stopped") for name in SOLVERS]
+    return ", ".join(f"{sum(column(rows, key))} of {name}" for name, key in kinds)
+
+
+def real_section(rows, limit):
+    text = ["", "## Procedures of 400 to 512 nodes", "",
+            "Each family with each of 1, 2, 4, 8, 16 and 32 orders and each kind of weights. Ask's times are for one",
+            f"order: the median of the files' medians, and the worst of all. Run was stopped after {limit} s, a solver",
+            f"after {LIMITS['real']} s; such a call counts with that time. The solvers only get files with an open order.",
+            ""]
+    text += head_of("family | files | ask median | worst | run median | worst | run/plain median | glpsol median "
+                    "| glpsol/run median | least | cbc median | cbc/run median | least")
+    text += [real_line(name, group) for name, group in groups(rows, "family")] + [real_line("all", rows)]
+    text += ["", f"Stopped: {stopped(rows)}. A solver was ahead in these:", ""]
+    return text + (ahead(rows) or ["- none"])
+
+
+def corpus_section(rows):
+    columns = ("library median | worst | plain median | worst | library/plain median | worst "
+               "| glpsol/library median | least | cbc/library median | least")
+    text = head_of("family | files | " + columns)
+    text += [line(name, group) for name, group in groups(rows, "family")] + [line("all", rows), ""]
+    text += head_of("weights | files | " + columns)
     text += [line(name, group) for name, group in groups(rows, "weights")]
-    late = sum(1 for row in rows for s in ("glpsol", "cbc") if row.get(s, 0) >= LIMIT * 1e9)
-    text += ["", f"Solver runs stopped after {LIMIT} s: {late}.", "", "## The largest procedures", "",
-             "60 nodes, 32 orders, equal weights; each file drawn anew. Most of these cuts are refused in the end (answer 9:",
-             "more than 64 nodes with the fences), which is known only once the cut is.", ""]
-    text += large_table(large)
+    return text + ["", f"Stopped, a solver after {LIMITS['corpus']} s: {stopped(rows)}."]
+
+
+def table(sets, base, limit, where):
+    text = ["# Times of run and ask", "",
+            "Made by `bench/run.sh`, from one run. Times are in milliseconds for one call.", "", where, "",
+            "The solvers get the same cut as an integer program, find its weight only (no tie rule), and are timed as",
+            f"processes; starting one costs {milliseconds(base['glpsol'])} ms (glpsol) and "
+            f"{milliseconds(base['cbc'])} ms (cbc) of that.", "",
+            "The plain version was fitted to the library: it takes routes in the library's order and drops the same",
+            "edges from a branch, so that both search the same tree and the ratio is that of the code, not of the",
+            "search. Its tables are as long as the file wants; the library's have room for 512 nodes, which is most of",
+            "a short time.", "", "## Procedures of 8 to 62 nodes", ""]
+    text += corpus_section(sets["corpus"])
+    text += ["", "## Procedures of 60 nodes", "", "32 orders, equal weights; each file drawn anew.", ""]
+    text += sixty_table(sets["sixty"]) + real_section(sets["real"], limit)
     text += ["", "![Time against number of nodes](times.svg)", ""]
     return "\n".join(text)
 
 
-def main():
-    results, folder, where, table_path, plot_path = sys.argv[1:6]
+def read(results):
     with open(results, newline="") as lines:
         rows = list(csv.DictReader(lines))
     for row in rows:
-        row["library"], row["plain"] = float(row["library"]), float(row["plain"])
-        row["nodes"] = int(row["nodes"])
-    large = [row for row in rows if row["set"] == "large"]
-    rows = [row for row in rows if row["set"] == "corpus"]
-    solve(rows, folder)
-    text = table(rows, large, trivial(folder), where)
+        row["nodes"], row["stopped"] = int(row["nodes"]), row["stopped"] == "1"
+        if row["stopped"]:
+            del row["plain"]
+        for name in ("ask", "ask worst", "library", "plain"):
+            if name in row:
+                row[name] = float(row[name])
+    return dict(groups(rows, "set"))
+
+
+def main():
+    results, folder, limit, where, table_path, plot_path = sys.argv[1:7]
+    sets = read(results)
+    solved = sets["corpus"] + sets["real"]
+    solve(solved, folder)
+    text = table(sets, trivial(folder), limit, where)
     print(text)
     with open(table_path, "w") as out:
         out.write(text)
     with open(plot_path, "w") as out:
-        out.write(plot(rows, "; library and plain under an emulator" if "emulator" in where else ""))
+        out.write(plot(solved, "; library and plain under an emulator" if "emulator" in where else ""))
 
 
 if __name__ == "__main__":

@@ -6,6 +6,7 @@
 set -eu -o pipefail
 cd "$(dirname "$0")"
 seed=${1:-1}
+limit=10 # seconds for a run of the library
 archive=$PWD/../target/staticlib/libfence.a
 build=$PWD/../target/bench
 host=$PWD/../host
@@ -14,6 +15,8 @@ host=$PWD/../host
 . "$host/machine.sh"
 [ -f "$archive" ] || { echo "the library is missing: run 'rt staticlib fence'"; exit 1; }
 install_missing glpk-utils coinor-cbc python3 || { echo "packages could not be installed: see $install_log"; exit 1; }
+
+ulimit -s 65536 # run's search goes one call deeper for each edge of a cut it tries
 
 mkdir -p "$build/programs"
 $cxx -std=c++17 -O3 -DNDEBUG -Wall -Wextra -I ../include -I "$host" -o "$build/measure" \
@@ -30,8 +33,8 @@ else
 too long, and the solvers' ratios too small, by the emulator's factor."
 fi
 
-"${emulator[@]}" "$build/measure" "$seed" "$build/programs" >"$build/results.csv"
-python3 -B report.py "$build/results.csv" "$build/programs" "$where" TIMES.md times.svg
+"${emulator[@]}" "$build/measure" "$seed" "$build/programs" "$limit" >"$build/results.csv"
+python3 -B report.py "$build/results.csv" "$build/programs" "$limit" "$where" TIMES.md times.svg
 
 cat >VISITS.md <<END
 Visits of the walk for every ordered pair of nodes of drawn graphs. Made by \`bench/run.sh $seed\`.

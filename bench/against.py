@@ -1,0 +1,76 @@
+#!/usr/bin/env python3
+"""Compares the times of two builds, and prints a table by family.
+
+    against.py ROUNDS BEFORE... -- AFTER...
+
+BEFORE and AFTER are the commands that start `against.cpp` with each build. They take turns file by file, so that what
+else the machine does hits both alike; the least time of all rounds counts.
+"""
+import statistics
+import subprocess
+import sys
+
+NO_ROOM = 9
+
+
+class Build:
+    def __init__(self, command):
+        self.process = subprocess.Popen(command, stdin=subprocess.PIPE, stdout=subprocess.PIPE, text=True)
+        self.files = int(self.process.stdout.readline())
+        self.rows = [None] * self.files
+
+    def measure(self, number):
+        print(number, file=self.process.stdin, flush=True)
+        family, answer, checksum, run, ask = self.process.stdout.readline().rstrip().split(",")
+        row = {"family": family, "answer": int(answer), "checksum": checksum, "run": float(run), "ask": float(ask)}
+        known = self.rows[number] or row
+        self.rows[number] = dict(row, run=min(row["run"], known["run"]), ask=min(row["ask"], known["ask"]))
+
+    def close(self):
+        self.process.stdin.close()
+        self.process.wait()
+
+
+def refused(before, after):
+    """How many files only the one before refuses for want of room. Any other difference ends the run."""
+    count = 0
+    for number, (old, new) in enumerate(zip(before, after)):
+        if old["answer"] == NO_ROOM != new["answer"]:
+            count += 1
+        elif (old["answer"], old["checksum"]) != (new["answer"], new["checksum"]):
+            sys.exit(f"file {number}: the builds differ")
+    return count
+
+
+def line(name, before, after):
+    cells = [name, str(len(before))]
+    for key in ("run", "ask"):
+        old, new = (statistics.median(row[key] for row in rows) for rows in (before, after))
+        cells += [f"{old / 1e3:.1f}", f"{new / 1e3:.1f}", f"{new / old:.2f}"]
+    return "| " + " | ".join(cells) + " |"
+
+
+def table(before, after):
+    print("| family | files | run before | after | after/before | ask before | after | after/before |")
+    print("|---|" + "---:|" * 7)
+    for name in [*dict.fromkeys(row["family"] for row in before), "all"]:
+        wanted = [i for i, row in enumerate(before) if name in (row["family"], "all")]
+        print(line(name, [before[i] for i in wanted], [after[i] for i in wanted]))
+
+
+def main():
+    split = sys.argv.index("--")
+    before, after = Build(sys.argv[2:split]), Build(sys.argv[split + 1:])
+    for _ in range(int(sys.argv[1])):
+        for number in range(before.files):
+            before.measure(number)
+            after.measure(number)
+    before.close()
+    after.close()
+    table(before.rows, after.rows)
+    print(f"\nBoth builds wrote the same bytes. Only the one before refused {refused(before.rows, after.rows)} files, "
+          "once it had their cut:\nwith its fences they have more than 64 nodes.\n")
+
+
+if __name__ == "__main__":
+    main()

@@ -1,0 +1,42 @@
+#!/usr/bin/env bash
+# Times the library beside another build of it, on files of 60 nodes. Writes bench/AGAINST.md.
+#
+#     bench/against.sh OTHER_ARCHIVE [SEED]      OTHER_ARCHIVE is the libfence.a of the build before
+set -eu -o pipefail
+other=$(realpath "$1")
+cd "$(dirname "$0")"
+seed=${2:-1}
+archive=$PWD/../target/staticlib/libfence.a
+build=$PWD/../target/bench
+host=$PWD/../host
+
+# shellcheck source=../host/machine.sh
+. "$host/machine.sh"
+[ -f "$archive" ] || { echo "the library is missing: run 'rt staticlib fence'"; exit 1; }
+install_missing python3 || { echo "packages could not be installed: see $install_log"; exit 1; }
+ulimit -s 65536 # as in run.sh
+
+mkdir -p "$build"
+program() {
+    $cxx -std=c++17 -O3 -DNDEBUG -Wall -Wextra -I ../include -I "$host" -o "$build/$1" \
+        against.cpp corpus.cpp shapes.cpp classics.cpp "$host/generate.cpp" "$host/reference_read.cpp" "$2"
+}
+program before "$other"
+program after "$archive"
+
+# A table for files with so many orders.
+compared() {
+    python3 -B against.py 5 "${emulator[@]}" "$build/before" "$seed" "$1" -- "${emulator[@]}" "$build/after" "$seed" "$1"
+}
+
+{
+    echo "# Beside the build before"
+    echo
+    echo "Medians in microseconds for one call, 60 nodes, all kinds of weights; of each file the least of several calls. Both"
+    echo "builds took turns, ${emulator[0]:+under an emulator (${emulator[0]}) }on $(uname -m). Made by \`bench/against.sh\`."
+    printf '\n## 1, 2, 4, 8, 16 and 32 orders\n\n'
+    compared 0
+    printf '## 32 orders\n\n'
+    compared 32
+} >AGAINST.md
+cat AGAINST.md
