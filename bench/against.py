@@ -3,8 +3,8 @@
 
     against.py ROUNDS BEFORE... -- AFTER...
 
-BEFORE and AFTER are the commands that start `against.cpp` with each build. They take turns file by file, so that what
-else the machine does hits both alike; the least time of all rounds counts.
+BEFORE and AFTER are the commands that start `against.cpp` with each build. They take turns file by file, so that
+what else the machine does hits both alike; the least time of all rounds counts.
 """
 import statistics
 import subprocess
@@ -68,8 +68,9 @@ def main():
     before.close()
     after.close()
     table(before.rows, after.rows)
-    print(f"\nBoth builds wrote the same bytes. Only the one before refused {refused(before.rows, after.rows)} files, "
-          "once it had their cut:\nwith its fences they have more than 64 nodes.\n")
+    count = refused(before.rows, after.rows)
+    print(f"\nBoth builds wrote the same bytes. Only the one before refused {count} files, once it had their cut:\n"
+          "with its fences they have more than 64 nodes.\n")
 
 
 if __name__ == "__main__":

@@ -26,17 +26,22 @@ program after "$archive"
 
 # A table for files with so many orders.
 compared() {
-    python3 -B against.py 5 "${emulator[@]}" "$build/before" "$seed" "$1" -- "${emulator[@]}" "$build/after" "$seed" "$1"
+    local before=("${emulator[@]}" "$build/before" "$seed" "$1") after=("${emulator[@]}" "$build/after" "$seed" "$1")
+    python3 -B against.py 5 "${before[@]}" -- "${after[@]}"
 }
 
-{
-    echo "# Beside the build before"
-    echo
-    echo "Medians in microseconds for one call, 60 nodes, all kinds of weights; of each file the least of several calls. Both"
-    echo "builds took turns, ${emulator[0]:+under an emulator (${emulator[0]}) }on $(uname -m). Made by \`bench/against.sh\`."
-    printf '\n## 1, 2, 4, 8, 16 and 32 orders\n\n'
-    compared 0
-    printf '## 32 orders\n\n'
-    compared 32
-} >AGAINST.md
+cat >AGAINST.md <<END
+# Beside the build before
+
+Medians in microseconds for one call at 60 nodes with all kinds of weights; of each file the least of several calls.
+Both builds took turns, ${emulator[0]:+under an emulator (${emulator[0]}) }on $(uname -m). Made by \`bench/against.sh\`.
+
+## 1, 2, 4, 8, 16 and 32 orders
+
+$(compared 0)
+
+## 32 orders
+
+$(compared 32)
+END
 cat AGAINST.md

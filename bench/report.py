@@ -35,6 +35,10 @@ def cells_line(cells):
     return "| " + " | ".join(cells) + " |"
 
 
+def head_of(columns):
+    return ["| " + columns + " |", "|---|" + "---:|" * columns.count("|")]
+
+
 def solver_ratios(rows, solver):
     ratios = over(rows, solver, "library")
     return [ratio(statistics.median(ratios)), ratio(min(ratios))] if ratios else ["", ""]
@@ -60,10 +64,6 @@ ASKED = {"line": "20 disjoint orders on a line, 3^20 equal cuts: milliseconds",
          "structured": "structured procedures: median below 1, nearly all below 10",
          "classic": "classic algorithms: none above 5",
          "commit": "a commit procedure: none above 5"}
-
-
-def head_of(columns):
-    return ["| " + columns + " |", "|---|" + "---:|" * columns.count("|")]
 
 
 def sixty_table(rows):
@@ -119,10 +119,11 @@ def stopped(rows):
 
 def real_section(rows, limit):
     text = ["", "## Procedures of 400 to 512 nodes", "",
-            "Each family with each of 1, 2, 4, 8, 16 and 32 orders and each kind of weights. Ask's times are for one",
-            f"order: the median of the files' medians, and the worst of all. Run was stopped after {limit} s, a solver",
-            f"after {LIMITS['real']} s; such a call counts with that time. The solvers only get files with an open order.",
-            ""]
+            "Each family with each of 1, 2, 4, 8, 16 and 32 orders and each kind of weights. Ask's times are for",
+            "one order: the median of the files' medians, and the worst of all. Run was stopped after "
+            f"{limit} s, a solver",
+            f"after {LIMITS['real']} s; such a call counts with that time. The solvers only get files with an open",
+            "order.", ""]
     text += head_of("family | files | ask median | worst | run median | worst | run/plain median | glpsol median "
                     "| glpsol/run median | least | cbc median | cbc/run median | least")
     text += [real_line(name, group) for name, group in groups(rows, "family")] + [real_line("all", rows)]
@@ -143,16 +144,17 @@ def corpus_section(rows):
 def table(sets, base, limit, where):
     text = ["# Times of run and ask", "",
             "Made by `bench/run.sh`, from one run. Times are in milliseconds for one call.", "", where, "",
-            "The solvers get the same cut as an integer program, find its weight only (no tie rule), and are timed as",
-            f"processes; starting one costs {milliseconds(base['glpsol'])} ms (glpsol) and "
+            "The solvers get the same cut as an integer program, find its weight only (no tie rule), and are timed",
+            f"as processes; starting one costs {milliseconds(base['glpsol'])} ms (glpsol) and "
             f"{milliseconds(base['cbc'])} ms (cbc) of that.", "",
-            "The plain version was fitted to the library: it takes routes in the library's order and drops the same",
-            "edges from a branch, so that both search the same tree and the ratio is that of the code, not of the",
-            "search. Its tables are as long as the file wants; the library's have room for 512 nodes, which is most of",
-            "a short time.", "", "## Procedures of 8 to 62 nodes", ""]
+            "The plain version was fitted to the library: it takes routes in the library's order and drops the",
+            "same edges from a branch, so that both search the same tree and the ratio is that of the code, not of",
+            "the search. Its tables are as long as the file wants; the library's have room for 512 nodes, which is",
+            "most of a short time.", "", "## Procedures of 8 to 62 nodes", ""]
     text += corpus_section(sets["corpus"])
     text += ["", "## Procedures of 60 nodes", "", "32 orders, equal weights; each file drawn anew.", ""]
-    text += sixty_table(sets["sixty"]) + real_section(sets["real"], limit)
+    text += sixty_table(sets["sixty"]) + ["", "[AGAINST.md](AGAINST.md) has run and ask beside the build before."]
+    text += real_section(sets["real"], limit)
     text += ["", "![Time against number of nodes](times.svg)", ""]
     return "\n".join(text)
 
