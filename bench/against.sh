@@ -26,22 +26,26 @@ program after "$archive"
 
 # A table for files with so many orders.
 compared() {
-    local before=("${emulator[@]}" "$build/before" "$seed" "$1") after=("${emulator[@]}" "$build/after" "$seed" "$1")
+    local before=("${emulator[@]}" "$build/before" "$seed" "$1")
+    local after=("${emulator[@]}" "$build/after" "$seed" "$1")
     python3 -B against.py 5 "${before[@]}" -- "${after[@]}"
 }
 
+mixed=$(compared 0)
+most=$(compared 32)
 cat >AGAINST.md <<END
 # Beside the build before
 
 Medians in microseconds for one call at 60 nodes with all kinds of weights; of each file the least of several calls.
-Both builds took turns, ${emulator[0]:+under an emulator (${emulator[0]}) }on $(uname -m). Made by \`bench/against.sh\`.
+Both builds took turns, ${emulator[0]:+under an emulator (${emulator[0]}) }on $(uname -m).
+Made by \`bench/against.sh\`.
 
 ## 1, 2, 4, 8, 16 and 32 orders
 
-$(compared 0)
+$mixed
 
 ## 32 orders
 
-$(compared 32)
+$most
 END
 cat AGAINST.md
