@@ -69,8 +69,8 @@ def main():
     after.close()
     table(before.rows, after.rows)
     count = refused(before.rows, after.rows)
-    print(f"\nBoth builds wrote the same bytes. Only the one before refused {count} files, once it had their cut:\n"
-          "with its fences they have more than 64 nodes.\n")
+    print(f"\nOn {before.files - count} files both builds gave the same answer and bytes. The other {count} only the one "
+          "before refused,\nonce it had their cut, for want of room for the fences: there are no bytes to compare.")
 
 
 if __name__ == "__main__":
