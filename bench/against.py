@@ -69,8 +69,8 @@ def main():
     after.close()
     table(before.rows, after.rows)
     count = refused(before.rows, after.rows)
-    print(f"\nOn {before.files - count} files both builds gave the same answer and bytes. The other {count} only the one "
-          "before refused,\nonce it had their cut, for want of room for the fences: there are no bytes to compare.")
+    print(f"\nOn {before.files - count} files both builds gave the same answer and bytes. The other {count} only "
+          "the one before refused,\nonce it had their cut, for want of room for the fences: there are no bytes to compare.")
 
 
 if __name__ == "__main__":

@@ -25,7 +25,8 @@ std::vector<Instance> sixty(std::uint64_t seed);
 // Procedures of 60 nodes of all families and weights, with so many orders; 0 stands for all numbers in turn.
 std::vector<Instance> sixty_of_all(std::uint64_t seed, unsigned orders);
 
-// All families, numbers of orders and weights at 400 nodes up to the limit of 512, where a fence has no room any more.
+// All families, numbers of orders and weights at 400 nodes up to the limit of 512, where a fence has no room any
+// more.
 std::vector<Instance> real(std::uint64_t seed);
 
 }  // namespace corpus
