@@ -109,6 +109,7 @@ pub fn bound(
     let mut left = whole.left;
     let mut first = [0u16; Graph::NODES];
     let mut len = 0;
+    let mut via = [0u16; Graph::NODES];
     let mut way = [0u16; Graph::NODES];
     let mut sum: u32 = 0;
     let n = firsts.len();
@@ -116,7 +117,7 @@ pub fn bound(
     while i < n {
         let a = wide(firsts[i]);
         let b = wide(seconds[i]);
-        let k = route::find_route(from, to, links, &left, a, b, &mut way);
+        let k = route::find_route(from, to, links, &left, a, b, &mut via, &mut way);
         if k == 0 {
             i += 1;
         } else {

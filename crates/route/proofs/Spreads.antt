@@ -20,12 +20,12 @@ pub start-far : (dist : List ℕ) (goal a : ℕ) → dist ≡ set (replicate mos
 start-far dist goal a p h n = omega (arith, ap (λ (k : List ℕ). getD k a 0) p, getD-set-other {A = ℕ} (replicate most-nodes 65535) goal a 0 0 n, getD-replicate {A = ℕ} most-nodes a 65535 0 h)
 
 module _ (from to left : List ℕ) (goal : ℕ) where
-  pub spread-start : (dist via queue : List ℕ) (count : ℕ) → goal < most-nodes → dist ≡ set (replicate most-nodes 65535) goal 0 → queue ≡ set (replicate most-nodes 0) 0 goal → length via ≡ most-nodes → count ≡ 1
+  pub spread-start : (dist via queue₀ queue : List ℕ) (count : ℕ) → goal < most-nodes → dist ≡ set (replicate most-nodes 65535) goal 0 → queue ≡ set queue₀ 0 goal → length queue₀ ≡ most-nodes → length via ≡ most-nodes → count ≡ 1
       → Spread from to left goal dist via queue count 0 0
-  spread-start dist via queue count g p q l c = record {
+  spread-start dist via queue₀ queue count g p q free l c = record {
     long = ap length p ∙ length-set (replicate most-nodes 65535) goal 0;
     wide = l;
-    room = ap length q ∙ length-set (replicate most-nodes 0) 0 goal;
+    room = ap length q ∙ length-set queue₀ 0 goal ∙ free;
     all = omega (arith, c, ap unseen p, unseen-set (replicate most-nodes 65535) goal 0 g (getD-replicate {A = ℕ} most-nodes goal 65535 0 g) (omega arith));
     aim = aim;
     led = record { home = λ v h z. ⊎-elim (λ a. a .0) (λ a. absurd (omega (arith, z, a .1))) (at v h); back = λ v k h z s. ⊎-elim (λ a. absurd (omega (arith, z, a .1))) (λ a. absurd (omega (arith, z, a .1, s))) (at v h) };
@@ -37,7 +37,7 @@ module _ (from to left : List ℕ) (goal : ℕ) where
   }
     where
       first : getD queue 0 0 ≡ goal
-      first = ap (λ (k : List ℕ). getD k 0 0) q ∙ getD-set-same (replicate most-nodes 0) 0 goal 0 (omega arith)
+      first = ap (λ (k : List ℕ). getD k 0 0) q ∙ getD-set-same queue₀ 0 goal 0 (omega (arith, free))
 
       -- the goal alone is reached
       at : (v : ℕ) → v < most-nodes → ((v ≡ goal) × (getD dist v 0 ≡ 0)) ⊎ ((v ≢ goal) × (getD dist v 0 ≡ 65535))

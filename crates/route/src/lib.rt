@@ -95,9 +95,15 @@ fn trace(
     n
 }
 
+// An array has its length. This does nothing: who has only a reference to one learns it here.
+fn sized(a: [u16; Graph::NODES])
+    ensures { λ r. ⌜ length a ≡ most-nodes ⌝ }
+{}
+
 // A route with the fewest edges from a to goal on which no edge is gone: an edge with nothing left is. Its edges are written to `out`; how
 // many they are is returned, 0 where there is no route. Nodes are reached backwards, in the order of their distance: `dist` is how far each
-// is from the goal, 65535 where it is not reached, `via` the edge that it goes on by; the first `count` of `queue` are the nodes reached.
+// is from the goal, 65535 where it is not reached, `via` the edge that it goes on by. Until the route is written the nodes reached stand in
+// `out`, `count` of them. What is lent may have anything: only `dist` is read before it is written.
 pub fn find_route(
     from: &[u16],
     to: &[u16],
@@ -105,6 +111,7 @@ pub fn find_route(
     left: &[u16; Graph::EDGES],
     a: usize,
     goal: usize,
+    via: &mut [u16; Graph::NODES],
     out: &mut [u16; Graph::NODES],
 ) -> usize
     requires { ⌜ Net (now from) (now to) × Linked (now to) (now links) 0 ⌝ }
@@ -115,16 +122,15 @@ pub fn find_route(
     if !ends_left(to, links, left, goal) {
         return 0;
     }
+    sized(*via);
     let n = from.len();
     let mut dist = [65535u16; Graph::NODES];
     dist[goal] = 0;
-    let mut via = [0u16; Graph::NODES];
-    let mut queue = [0u16; Graph::NODES];
-    queue[0] = goal as u16;
+    out[0] = goal as u16;
     let mut count = 1;
     let mut i = 0;
     while i < count {
-        let u = wide(queue[i]);
+        let u = wide(out[i]);
         let d = dist[u];
         let mut e = wide(links[u]);
         while e < n {
@@ -134,7 +140,7 @@ pub fn find_route(
                 if dist[v] == 65535 {
                     dist[v] = d + 1;
                     via[v] = e as u16;
-                    queue[count] = f;
+                    out[count] = f;
                     count += 1;
                 }
             }
@@ -142,7 +148,7 @@ pub fn find_route(
         }
         i += 1;
         if dist[a] < 65535 {
-            return trace(from, to, left, a, goal, &dist, &via, out);
+            return trace(from, to, left, a, goal, &dist, via, out);
         }
     }
     0

@@ -2,10 +2,10 @@
 -- Assumes nothing.
 use mathlib.Core.Logic.{⊎-elim}
 use mathlib.Core.Path.{_≡_, refl}
-use Prim.Native.Nat.{ℕ, _+_, _-_, _<_, _≤_}
+use Prim.Native.Nat.{_+_, _-_, _<_, _≤_}
 use native.Mathlib.Nat.{pos-of-ne-zero}
 use native.Mathlib.Omega.{arith}
-use lib.ListN.{length, getD, length-replicate}
+use lib.ListN.{length, getD}
 use borrow.Author.Tests.{not-true}
 use Rattle.graph.specs.Limits.{most-nodes}
 use Rattle.route.specs.Spread.{Spread}
@@ -18,24 +18,24 @@ use Rattle.route.proofs.find_route.Statement.{statement}
 use Rattle.route.proofs.find_route.Tie as tie
 
 abbrev Inv-loop2 : tie.InvT-loop2
-Inv-loop2 from to links left a goal out n dist₀ via₀ queue₀ count₀ i u d e₀ dist via queue count e = Looking from to left goal i u d dist via queue count e
+Inv-loop2 from to links left a goal via₀ out₀ n dist₀ count₀ i u d e₀ via out dist count e = Looking from to left goal i u d dist via out count e
 
 abbrev μ-loop2 : tie.MeasureT-loop2
-μ-loop2 from to links left a goal out n dist₀ via₀ queue₀ count₀ i u d e₀ dist via queue count e = length from - e
+μ-loop2 from to links left a goal via₀ out₀ n dist₀ count₀ i u d e₀ via out dist count e = length from - e
 
 abbrev Inv-loop : tie.InvT-loop
-Inv-loop from to links left a goal out₀ n dist₀ via₀ queue₀ count₀ i₀ out dist via queue count i = Spread from to left goal dist via queue count i 0 × (65535 ≤ getD dist a 0) × (length out ≡ most-nodes)
+Inv-loop from to links left a goal via₀ out₀ n dist₀ count₀ i₀ via out dist count i = Spread from to left goal dist via out count i 0 × (65535 ≤ getD dist a 0)
 
 abbrev μ-loop : tie.MeasureT-loop
-μ-loop from to links left a goal out₀ n dist₀ via₀ queue₀ count₀ i₀ out dist via queue count i = most-nodes - i
+μ-loop from to links left a goal via₀ out₀ n dist₀ count₀ i₀ via out dist count i = most-nodes - i
 
 -- while the edges that end at a node are looked at
 module _ (l : tie.At-loop2 Inv-loop2 μ-loop2 Inv-loop μ-loop) where
   abbrev turn : tie.In-loop Inv-loop2 μ-loop2 Inv-loop μ-loop
-  turn = l .before .before .before .before
+  turn = l .before .before .before .before .before
 
   abbrev start : tie.Start Inv-loop2 μ-loop2 Inv-loop μ-loop
-  start = turn .before .before .before .before .before .before
+  start = turn .before .before .before .before .before .before .before .before
 
   abbrev net : Net (start .args .from .now) (start .args .to .now)
   net = start .pre .0 .0
@@ -44,7 +44,7 @@ module _ (l : tie.At-loop2 Inv-loop2 μ-loop2 Inv-loop μ-loop) where
   linked = start .pre .0 .1
 
 -- when all of them have been
-looked : (c : tie.After-loop2 Inv-loop2 μ-loop2 Inv-loop μ-loop) → let l = c .before in Spread (start l .args .from .now) (start l .args .to .now) (start l .args .left .now) (start l .args .goal) (l .loop2 .dist) (l .loop2 .via) (l .loop2 .queue) (l .loop2 .count) (turn l .before .loop .i + 1) 0
+looked : (c : tie.After-loop2 Inv-loop2 μ-loop2 Inv-loop μ-loop) → let l = c .before in Spread (start l .args .from .now) (start l .args .to .now) (start l .args .left .now) (start l .args .goal) (l .loop2 .dist) (l .loop2 .via) (l .loop2 .out) (l .loop2 .count) (turn l .before .loop .i + 1) 0
 looked c =
     let l = c .before in
     look-end _ _ _ _ _ (net l) (linked l) _ _ _ _ _ _ _ _ (l .loop2 .inv) (c .loop2-test .left)
@@ -60,9 +60,9 @@ module _ (w : tie.After-wide3 Inv-loop2 μ-loop2 Inv-loop μ-loop) where
 -- the node that is looked at
 at-node : (c : tie.After-wide Inv-loop2 μ-loop2 Inv-loop μ-loop) → c .wide .result < most-nodes
 at-node c =
-    let l = c .before .before in
-    let st = l .before .before .before .before .before in
-    node-known _ _ _ _ _ (st .pre .0 .0) (st .pre .0 .1) _ _ _ _ _ _ 0 (l .loop .inv .0) (omega (arith, c .before .loop-test .taken)) (c .wide .ensures .0)
+    let l = c .before .before .before in
+    let st = l .before .before .before .before .before .before .before in
+    node-known _ _ _ _ _ (st .pre .0 .0) (st .pre .0 .1) _ _ _ _ _ _ 0 (l .loop .inv .0) (omega (arith, c .before .before .loop-test .taken)) (c .wide .ensures .0)
 
 ends-left-requires : tie.Need-ends-left-requires Inv-loop2 μ-loop2 Inv-loop μ-loop
 ends-left-requires c κs =
@@ -81,22 +81,22 @@ mul-dist c = search needs
 array-write-dist : tie.Need-array-write-dist Inv-loop2 μ-loop2 Inv-loop μ-loop
 array-write-dist c = search needs
 
-cast-queue : tie.Need-cast-queue Inv-loop2 μ-loop2 Inv-loop μ-loop
-cast-queue c = search needs
+cast-out : tie.Need-cast-out Inv-loop2 μ-loop2 Inv-loop μ-loop
+cast-out c = search needs
 
-array-write-queue : tie.Need-array-write-queue Inv-loop2 μ-loop2 Inv-loop μ-loop
-array-write-queue c = search needs
+element-write-out : tie.Need-element-write-out Inv-loop2 μ-loop2 Inv-loop μ-loop
+element-write-out c = search needs
 
 loop-holds : tie.Need-loop-holds Inv-loop2 μ-loop2 Inv-loop μ-loop
 loop-holds c =
-    let st = c .before .before .before .before in
-    (spread-start _ _ _ _ _ _ _ _ (st .pre .1 .0 .1) refl refl (length-replicate {A = ℕ} most-nodes 0) refl, start-far _ _ _ refl (st .pre .1 .0 .0) (st .pre .1 .0 .2), st .pre .1 .1)
+    let st = c .before .before .before .before .before .before in
+    (spread-start _ _ _ _ _ _ (st .args .out .now) _ _ (st .pre .1 .0 .1) refl refl (st .pre .1 .1) (c .sized .ensures) refl, start-far _ _ _ refl (st .pre .1 .0 .0) (st .pre .1 .0 .2))
 
 mul-wide : tie.Need-mul-wide Inv-loop2 μ-loop2 Inv-loop μ-loop
 mul-wide c = search needs
 
-array-read-wide : tie.Need-array-read-wide Inv-loop2 μ-loop2 Inv-loop μ-loop
-array-read-wide c = let r = c .before .loop .inv .0 in omega (arith, c .loop-test .taken, r .all, r .room)
+element-copy-out-wide : tie.Need-element-copy-out-wide Inv-loop2 μ-loop2 Inv-loop μ-loop
+element-copy-out-wide c = let r = c .before .loop .inv .0 in omega (arith, c .loop-test .taken, r .all, r .room)
 
 wide-requires : tie.Need-wide-requires Inv-loop2 μ-loop2 Inv-loop μ-loop
 wide-requires c κs = search needs
@@ -110,8 +110,8 @@ array-read-d c = at-node c
 mul-wide-2 : tie.Need-mul-wide-2 Inv-loop2 μ-loop2 Inv-loop μ-loop
 mul-wide-2 c = search needs
 
-element-copy-out-wide : tie.Need-element-copy-out-wide Inv-loop2 μ-loop2 Inv-loop μ-loop
-element-copy-out-wide c = omega (arith, at-node c)
+element-copy-out-wide-2 : tie.Need-element-copy-out-wide-2 Inv-loop2 μ-loop2 Inv-loop μ-loop
+element-copy-out-wide-2 c = omega (arith, at-node c)
 
 wide-requires-2 : tie.Need-wide-requires-2 Inv-loop2 μ-loop2 Inv-loop μ-loop
 wide-requires-2 c κs = search needs
@@ -119,9 +119,9 @@ wide-requires-2 c κs = search needs
 loop2-holds : tie.Need-loop2-holds Inv-loop2 μ-loop2 Inv-loop μ-loop
 loop2-holds c =
     let w = c .before .before in
-    let l = w .before .before in
-    let st = l .before .before .before .before .before in
-    look-start _ _ _ _ _ (st .pre .0 .0) (st .pre .0 .1) _ _ _ _ _ _ _ (l .loop .inv .0) (omega (arith, w .before .loop-test .taken)) (w .wide .ensures .0) (c .wide2 .ensures .0)
+    let l = w .before .before .before in
+    let st = l .before .before .before .before .before .before .before in
+    look-start _ _ _ _ _ (st .pre .0 .0) (st .pre .0 .1) _ _ _ _ _ _ _ (l .loop .inv .0) (omega (arith, w .before .before .loop-test .taken)) (w .wide .ensures .0) (c .wide2 .ensures .0)
 
 mul-if2 : tie.Need-mul-if2 Inv-loop2 μ-loop2 Inv-loop μ-loop
 mul-if2 c = search needs
@@ -162,14 +162,14 @@ cast-via c = search needs
 mul-via : tie.Need-mul-via Inv-loop2 μ-loop2 Inv-loop μ-loop
 mul-via c = search needs
 
-array-write-via : tie.Need-array-write-via Inv-loop2 μ-loop2 Inv-loop μ-loop
-array-write-via c = within (c .before)
+element-write-via : tie.Need-element-write-via Inv-loop2 μ-loop2 Inv-loop μ-loop
+element-write-via c = within (c .before)
 
-mul-queue : tie.Need-mul-queue Inv-loop2 μ-loop2 Inv-loop μ-loop
-mul-queue c = search needs
+mul-out : tie.Need-mul-out Inv-loop2 μ-loop2 Inv-loop μ-loop
+mul-out c = search needs
 
-array-write-queue-2 : tie.Need-array-write-queue-2 Inv-loop2 μ-loop2 Inv-loop μ-loop
-array-write-queue-2 c =
+element-write-out-2 : tie.Need-element-write-out-2 Inv-loop2 μ-loop2 Inv-loop μ-loop
+element-write-out-2 c =
     let w = c .before in
     let l = edge w .before in
     look-room _ _ _ _ _ (net l) (linked l) _ _ _ _ _ _ _ _ (l .loop2 .inv) _ (edge w .loop2-test .taken) (pos-of-ne-zero (w .before .before .if2 .taken)) (w .wide3 .ensures .0) (c .if3 .taken)
@@ -183,8 +183,8 @@ add-wide c = search needs
 mul-wide-3 : tie.Need-mul-wide-3 Inv-loop2 μ-loop2 Inv-loop μ-loop
 mul-wide-3 c = search needs
 
-element-copy-out-wide-2 : tie.Need-element-copy-out-wide-2 Inv-loop2 μ-loop2 Inv-loop μ-loop
-element-copy-out-wide-2 c =
+element-copy-out-wide-3 : tie.Need-element-copy-out-wide-3 Inv-loop2 μ-loop2 Inv-loop μ-loop
+element-copy-out-wide-3 c =
     let n = c .before .before in
     omega (arith, n .loop2-test .taken, net (n .before) .few)
 
@@ -226,7 +226,7 @@ trace-requires c κs =
     let n = c .before .before .before .before in
     let l = n .before in
     let st = start l in
-    ((net l, looked n .led), ((st .pre .1 .0 .0, st .pre .1 .0 .2, omega (arith, spread-near _ _ _ _ _ _ _ _ _ _ (looked n) _ (st .pre .1 .0 .0) (c .before .before .before .if4 .taken), looked n .all)), turn l .before .loop .inv .2))
+    ((net l, looked n .led), ((st .pre .1 .0 .0, st .pre .1 .0 .2, omega (arith, spread-near _ _ _ _ _ _ _ _ _ _ (looked n) _ (st .pre .1 .0 .0) (c .before .before .before .if4 .taken), looked n .all)), looked n .room))
 
 returns-2 : tie.Need-returns-2 Inv-loop2 μ-loop2 Inv-loop μ-loop
 returns-2 c = search needs
@@ -237,13 +237,16 @@ loop-less c =
     omega (arith, t .loop-test .taken, t .before .loop .inv .0 .all)
 
 loop-again : tie.Need-loop-again Inv-loop2 μ-loop2 Inv-loop μ-loop
-loop-again c = (looked (c .before), omega (arith, c .if4 .left), turn (c .before .before) .before .loop .inv .2)
+loop-again c = (looked (c .before), omega (arith, c .if4 .left))
 
 returns-3 : tie.Need-returns-3 Inv-loop2 μ-loop2 Inv-loop μ-loop
 returns-3 c =
     let l = c .before in
-    let st = l .before .before .before .before .before in
-    (l .loop .inv .2, none-found _ _ _ _ _ _ (spread-none _ _ _ _ _ _ _ _ _ _ (l .loop .inv .0) (st .pre .0 .0) (omega (arith, c .loop-test .left)) _ (l .loop .inv .1)))
+    let st = l .before .before .before .before .before .before .before in
+    (l .loop .inv .0 .room, none-found _ _ _ _ _ _ (spread-none _ _ _ _ _ _ _ _ _ _ (l .loop .inv .0) (st .pre .0 .0) (omega (arith, c .loop-test .left)) _ (l .loop .inv .1)))
+
+sized-requires : tie.Need-sized-requires Inv-loop2 μ-loop2 Inv-loop μ-loop
+sized-requires c κs = search needs
 
 pub find-route-spec : {M : Type 1} → statement M
 find-route-spec =
@@ -255,18 +258,19 @@ find-route-spec =
     μ-loop
     ends-left-requires
     returns
+    sized-requires
     mul-dist
     array-write-dist
-    cast-queue
-    array-write-queue
+    cast-out
+    element-write-out
     loop-holds
     mul-wide
-    array-read-wide
+    element-copy-out-wide
     wide-requires
     mul-d
     array-read-d
     mul-wide-2
-    element-copy-out-wide
+    element-copy-out-wide-2
     wide-requires-2
     loop2-holds
     mul-if2
@@ -281,13 +285,13 @@ find-route-spec =
     array-write-dist-2
     cast-via
     mul-via
-    array-write-via
-    mul-queue
-    array-write-queue-2
+    element-write-via
+    mul-out
+    element-write-out-2
     add-count
     add-wide
     mul-wide-3
-    element-copy-out-wide-2
+    element-copy-out-wide-3
     wide-requires-4
     loop2-less
     loop2-again

@@ -18,15 +18,15 @@ use Rattle.lightest.proofs.pack.bound.Statement.{statement}
 use Rattle.lightest.proofs.pack.bound.Tie as tie
 
 abbrev Inv-loop : tie.InvT-loop
-Inv-loop from to links ws firsts seconds allowance left₀ first₀ len₀ way₀ sum₀ n i₀ left first len way sum i = (i ≤ n) × (sum ≤ allowance) × (length left ≡ most-edges) × (length way ≡ most-nodes) × ((s : Cut) → Made ws s → Unspent ws (s .chosen) left₀ → Filled from to ws firsts seconds s left (record { edges = first; len = len }) sum i)
+Inv-loop from to links ws firsts seconds allowance left₀ first₀ len₀ via₀ way₀ sum₀ n i₀ left first len via way sum i = (i ≤ n) × (sum ≤ allowance) × (length left ≡ most-edges) × (length way ≡ most-nodes) × ((s : Cut) → Made ws s → Unspent ws (s .chosen) left₀ → Filled from to ws firsts seconds s left (record { edges = first; len = len }) sum i)
 
 abbrev μ-loop : tie.MeasureT-loop
-μ-loop from to links ws firsts seconds allowance left₀ first₀ len₀ way₀ sum₀ n i₀ left first len way sum i = (n - i) + (allowance + 1 - sum)
+μ-loop from to links ws firsts seconds allowance left₀ first₀ len₀ via₀ way₀ sum₀ n i₀ left first len via way sum i = (n - i) + (allowance + 1 - sum)
 
 -- what is known once a route was looked for
 module _ (f : tie.After-find-route Inv-loop μ-loop) where
   abbrev to-node : tie.After-wide2 Inv-loop μ-loop
-  to-node = f .before .before .before
+  to-node = f .before .before .before .before
 
   abbrev from-node : tie.After-wide Inv-loop μ-loop
   from-node = to-node .before .before
@@ -39,7 +39,7 @@ module _ (f : tie.After-find-route Inv-loop μ-loop) where
 
   -- the route that was found
   abbrev way : Route
-  way = record { edges = f .find-route .last .1 .1 .1 .1 .1 .1 .0; len = f .find-route .result }
+  way = record { edges = f .find-route .last .1 .1 .1 .1 .1 .1 .1 .0; len = f .find-route .result }
 
   fair : Fair way
   fair = fair-route _ _ _ _ _ _ (start .pre .0) _ _ _ _ (turn .loop-test .taken) (from-node .wide .ensures .0) (to-node .wide2 .ensures .0) _ (f .find-route .ensures .1)
@@ -105,7 +105,7 @@ wide-requires-2 c κs = search needs
 
 find-route-requires : tie.Need-find-route-requires Inv-loop μ-loop
 find-route-requires c κs =
-    let w2 = c .before .before in
+    let w2 = c .before .before .before in
     let w1 = w2 .before .before in
     let n = w1 .before .before in
     let kn = n .before .before .before .before .before .before .before .before .before .pre .0 in
