@@ -9,7 +9,7 @@ use native.Mathlib.Nat.{mod-lt, div-eq-of-lt, mul-mod-left, max-zero, one-mul, m
 use native.Mathlib.Omega.{arith}
 use lib.Arith.{digits-mod}
 use lib.Bits.{bitOr, bitAnd, or-step, and-step, or-shr, and-shr, or-block, or-zero-r, or-lt}
-use lib.Count.{ones, ones-step, ones-cat, ones-le}
+use lib.Count.{ones, ones-step, ones-cat}
 use lib.Dec.{eqb, lit<}
 use lib.Pow.{pow-pos, pow-lt, pow-add, split, shl-shr, shl-exact}
 use Rattle.flags.specs.Flag.{digit, flag, put}
@@ -118,10 +118,6 @@ put-count w k e =
 pub put-lt : (w k : ℕ) → w < 2 ^ 64 → k < 64 → put w k < 2 ^ 64
 unfolding put
 put-lt w k h l = or-lt 64 w (1 * 2 ^ k) h (subst (λ (x : ℕ). x < 2 ^ 64) (sym (one-mul (2 ^ k))) (pow-lt l))
-
--- so there is room for it
-pub clear-room : (w k : ℕ) → w < 2 ^ 64 → k < 64 → flag w k ≡ false → ones w < 64
-clear-room w k h l e = omega (arith, ones-le 64 (put w k) (put-lt w k h l), put-count w k e)
 
 -- a flag of `put w k`, by cases
 pub put-cases : (w k j : ℕ) → flag (put w k) j ≡ true → (j ≡ k) ⊎ (flag w j ≡ true)
