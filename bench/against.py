@@ -46,13 +46,14 @@ def line(name, before, after):
     cells = [name, str(len(before))]
     for key in ("run", "ask"):
         old, new = (statistics.median(row[key] for row in rows) for rows in (before, after))
-        cells += [f"{old / 1e3:.1f}", f"{new / 1e3:.1f}", f"{new / old:.2f}"]
+        ratio = statistics.median(b[key] / a[key] for a, b in zip(before, after))
+        cells += [f"{old / 1e3:.1f}", f"{new / 1e3:.1f}", f"{new / old:.2f}", f"{ratio:.2f}"]
     return "| " + " | ".join(cells) + " |"
 
 
 def table(before, after):
-    print("| family | files | run before | after | after/before | ask before | after | after/before |")
-    print("|---|" + "---:|" * 7)
+    print("| family | files | run before | after | after/before | of a file | ask before | after | after/before | of a file |")
+    print("|---|" + "---:|" * 9)
     for name in [*dict.fromkeys(row["family"] for row in before), "all"]:
         wanted = [i for i, row in enumerate(before) if name in (row["family"], "all")]
         print(line(name, [before[i] for i in wanted], [after[i] for i in wanted]))

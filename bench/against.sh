@@ -37,7 +37,8 @@ cat >AGAINST.md <<END
 # Beside the build before
 
 Medians in microseconds for one call at 60 nodes with all kinds of weights; of each file the least of several calls.
-Both builds took turns, ${emulator[0]:+under an emulator (${emulator[0]}) }on $(uname -m).
+"Of a file" is the median of the files' own ratios: about half of a family's files, by their rules, take several times as
+long as the others, and a median of times may fall between the two. Both builds took turns, ${emulator[0]:+under an emulator (${emulator[0]}) }on $(uname -m).
 Made by \`bench/against.sh\`.
 
 ## 1, 2, 4, 8, 16 and 32 orders
