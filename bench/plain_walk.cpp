@@ -64,7 +64,7 @@ public:
         for (unsigned p = 0; p < fits_.size(); ++p)
             if (fits_[p][second]) into_.set(p);
         const Nodes visited = Nodes().set(first);
-        return hopeful(first, visited, fits_[first]) && trial(first, visited, fits_[first]);
+        return hopeful(first, visited, fits_[first]) && trial(first, visited, fits_[first], false);
     }
 
     std::uint64_t visits() const { return visits_; }  // for the order that was asked last
@@ -139,26 +139,30 @@ private:
         return node < most_nodes && higher(next, node) < most_nodes;
     }
 
-    // Is no way on left, now that the one over `failed` has failed? Worth the longer look only where `hopeful` did
-    // not foresee that.
-    bool lost(unsigned at, const Nodes &visited, const Nodes &after, unsigned failed) {
-        return branches(at, visited) && hopeful(failed, Nodes(visited).set(failed), marked(after, failed)) &&
-               !some_way(at, visited, after);
+    // Is no way on left, now that the one over `failed` has failed? A short look if the walk was not wary and so
+    // came here without; a longer one only where `hopeful` does not see that failure.
+    bool lost(unsigned at, const Nodes &visited, const Nodes &after, bool wary, unsigned failed) {
+        if (!branches(at, visited)) return false;
+        if (!wary && !hopeful(at, visited, after)) return true;
+        return hopeful(failed, Nodes(visited).set(failed), marked(after, failed)) && !some_way(at, visited, after);
     }
 
-    bool visit(unsigned at, const Nodes &visited, const Nodes &after) {
+    bool visit(unsigned at, const Nodes &visited, const Nodes &after, bool doubt) {
         ++visits_;
         if (at == last_) return !after[at];
-        return trial(at, Nodes(visited).set(at), marked(after, at));
+        return trial(at, Nodes(visited).set(at), marked(after, at), doubt);
     }
 
-    // Tries the edges of the last node on the route so far, that to the lowest node first.
-    bool trial(unsigned at, const Nodes &visited, const Nodes &after) {
-        if (branches(at, visited) && !hopeful(at, visited, after)) return false;
+    // Tries the edges of the last node on the route so far, that to the lowest node first. With doubt, once some
+    // way has failed, it looks ahead before it goes on.
+    bool trial(unsigned at, const Nodes &visited, const Nodes &after, bool doubt) {
+        if (doubt && branches(at, visited) && !hopeful(at, visited, after)) return false;
         const Nodes next = next_[at] & ~visited;
+        bool wary = doubt;
         for (unsigned node = lowest(next); node < most_nodes; node = higher(next, node)) {
-            if (visit(node, visited, after)) return true;
-            if (lost(at, visited, after, node)) return false;
+            if (visit(node, visited, after, wary)) return true;
+            if (lost(at, visited, after, wary, node)) return false;
+            wary = true;
         }
         return false;
     }

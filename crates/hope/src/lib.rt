@@ -137,8 +137,8 @@ fn branches<'a>(succ: &'a Sets, visited: Set, v: usize) -> bool
     lowest(succ[v], with(visited, k)) != Graph::NODES
 }
 
-// Whether it is seen at v that no route goes on and leaves its ends unordered. Where there is one way on it is cheaper to take it, and to ask
-// at the next node that has several.
+// Whether it is seen at v that no route goes on and leaves its ends unordered. That is looked for only if the walk is wary, since most that
+// have not failed yet never do; and only where there are several ways on: one is cheaper taken than judged.
 pub fn hopeless<'a>(
     succ: &'a Sets,
     fits: &'a Sets,
@@ -147,11 +147,15 @@ pub fn hopeless<'a>(
     visited: Set,
     after: Set,
     least: &'a mut Sets,
+    wary: bool,
     v: usize,
 ) -> bool
     requires { ⌜ (v < most-nodes) × (goal < most-nodes) × Into (rows (now fits)) goal (whole into) ⌝ }
     ensures { λ r. ⌜ (r ≡ true → (l : List ℕ) → Next (rows (now (succ .entry))) (rows (now (fits .entry))) goal (whole visited) (whole after) v l → ⊥) ⌝ }
 {
+    if !wary {
+        return false;
+    }
     if !branches(succ, visited, v) {
         return false;
     }

@@ -90,8 +90,8 @@ fn some_way<'a>(
     false
 }
 
-// Whether no way on from v is left, asked once the way over k has failed. A longer look is worth it only where there are other ways, and only
-// if `hopeful` didn't see that failure.
+// Whether no way on from v is left, asked once the way over k has failed. It is worth a look only where there are other ways: a short one if
+// the walk was not wary and so came here without, and a longer one if `hopeful` doesn't see that failure.
 pub fn lost<'a>(
     succ: &'a Sets,
     fits: &'a Sets,
@@ -100,6 +100,7 @@ pub fn lost<'a>(
     visited: Set,
     after: Set,
     scratch: &'a mut Sets,
+    wary: bool,
     v: usize,
     k: usize,
 ) -> bool
@@ -108,6 +109,11 @@ pub fn lost<'a>(
 {
     if !branches(succ, visited, v) {
         return false;
+    }
+    if !wary {
+        if !hopeful(succ, fits, goal, into, visited, after, scratch, v) {
+            return true;
+        }
     }
     if !hopeful(
         succ,

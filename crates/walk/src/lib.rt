@@ -45,7 +45,8 @@ fn visit<'a>(
     visited: Set,
     after: Set,
     nodes: [u16; Graph::NODES],
-    scratch: &'a mut Sets,
+    lent: &'a mut Sets,
+    doubt: bool,
     v: usize,
 ) -> Way
     requires { ⌜ (v < most-nodes) × (goal < most-nodes) × (flag (whole visited) v ≡ false) × Into (rows (now fits)) goal (whole into) ⌝ }
@@ -72,12 +73,14 @@ fn visit<'a>(
         on_route,
         marked(fits, after, v),
         longer,
-        scratch,
+        lent,
+        doubt,
         v,
     )
 }
 
-// The trial of the edges of v, the last node on the route so far: each in turn, that to the lowest node first. The first way on.
+// The trial of the edges of v, the last node on the route so far: each in turn, that to the lowest node first. The first way on. With doubt,
+// once some way has failed, the walk looks ahead before it goes on.
 fn trial<'a>(
     succ: &'a Sets,
     fits: &'a Sets,
@@ -86,29 +89,32 @@ fn trial<'a>(
     visited: Set,
     after: Set,
     nodes: [u16; Graph::NODES],
-    scratch: &'a mut Sets,
+    lent: &'a mut Sets,
+    doubt: bool,
     v: usize,
 ) -> Way
     requires { ⌜ (v < most-nodes) × (goal < most-nodes) × Into (rows (now fits)) goal (whole into) ⌝ }
     ensures { λ r. ⌜ Answer (Next (rows (now (succ .entry))) (rows (now (fits .entry))) goal (whole visited) (whole after) v) (take (ones (whole visited)) nodes) r ⌝ }
 {
-    if hopeless(succ, fits, goal, into, visited, after, scratch, v) {
+    if hopeless(succ, fits, goal, into, visited, after, lent, doubt, v) {
         return Way { len: 0, nodes };
     }
     let mut tried = visited;
+    let mut wary = doubt;
     loop {
         let k = lowest(succ[v], tried);
         if k == Graph::NODES {
             return Way { len: 0, nodes };
         }
-        let way = visit(succ, fits, goal, into, visited, after, nodes, scratch, k);
+        let way = visit(succ, fits, goal, into, visited, after, nodes, lent, wary, k);
         if 0 < way.len {
             return way;
         }
-        if lost(succ, fits, goal, into, visited, after, scratch, v, k) {
+        if lost(succ, fits, goal, into, visited, after, lent, wary, v, k) {
             return Way { len: 0, nodes };
         }
         put_in(&mut tried, k);
+        wary = true;
     }
 }
 
@@ -117,7 +123,7 @@ fn trial<'a>(
 pub fn open_route<'a>(
     succ: &'a Sets,
     fits: &'a Sets,
-    scratch: &'a mut Sets,
+    lent: &'a mut Sets,
     n: usize,
     a: usize,
     b: usize,
@@ -130,10 +136,10 @@ pub fn open_route<'a>(
     nodes[0] = a as u16;
     let into = into_set(fits, n, b);
     let visited = with(none(), a);
-    if !hopeful(succ, fits, b, into, visited, after, scratch, a) {
+    if !hopeful(succ, fits, b, into, visited, after, lent, a) {
         return Way { len: 0, nodes };
     }
-    trial(succ, fits, b, into, visited, after, nodes, scratch, a)
+    trial(succ, fits, b, into, visited, after, nodes, lent, false, a)
 }
 
 // For each order whether it is open.

@@ -53,10 +53,10 @@ abbrev visit-below : ℕ → In 1 visit-kinds.ps
 visit-below t = and 1 visit-kinds.ps (falls 1 visit-kinds.ps _<_ μ-visit t) visit.Pre
 
 abbrev trial-Inv-loop : trial-lts.InvT-loop
-trial-Inv-loop succ fits goal into visited after nodes scratch₀ v tried₀ scratch tried = Tried (rows succ) (rows fits) goal (whole visited) (whole after) v (whole tried)
+trial-Inv-loop succ fits goal into visited after nodes lent₀ doubt v tried₀ wary₀ lent tried wary = Tried (rows succ) (rows fits) goal (whole visited) (whole after) v (whole tried)
 
 abbrev trial-μ-loop : trial-lts.MeasureT-loop
-trial-μ-loop succ fits goal into visited after nodes scratch₀ v tried₀ scratch tried = most-nodes - ones (whole tried)
+trial-μ-loop succ fits goal into visited after nodes lent₀ doubt v tried₀ wary₀ lent tried wary = most-nodes - ones (whole tried)
 
 abbrev trial-calls : ℕ → trial-lts.Claims
 trial-calls t = (hopeless-reads.Asked, hopeless-reads.Learnt, lowest-reads.Asked, lowest-reads.Learnt, visit-below t, visit.Post, lost-reads.Asked, lost-reads.Learnt, put-in-reads.Asked, put-in-reads.Learnt)
@@ -181,8 +181,8 @@ module _ (t : ℕ) where
       let s = th .before .before .before in
       none refl (λ l. ordered-end (rows (s .args .succ .now)) (rows (s .args .fits .now)) (s .args .goal) (th .if1 .taken) (sym (h .has .ensures) ∙ c .if2 .taken))
 
-  visit-add-t21 : visit-lts.Need-add-t21 (visit-calls t) (visit-at t) visit.Post
-  visit-add-t21 c =
+  visit-add-t22 : visit-lts.Need-add-t22 (visit-calls t) (visit-at t) visit.Post
+  visit-add-t22 c =
       let w = c .before .before .before .before in
       omega (arith, free w .1, w .before .size .ensures .0)
 
@@ -241,7 +241,7 @@ pub +trial+visit-spec : {M : Type 1} → statement M
     (visit-array-write-longer t)
     (visit-has-requires t)
     (visit-returns t)
-    (visit-add-t21 t)
+    (visit-add-t22 t)
     (visit-returns-2 t)
     (visit-marked-requires t)
     (visit-trial-requires t)

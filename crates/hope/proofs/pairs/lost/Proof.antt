@@ -1,4 +1,4 @@
--- `hope::pairs::lost` meets its contract: only the longer look says that nothing is left.
+-- `hope::pairs::lost` meets its contract: only the short look and the longer one say that nothing is left.
 use mathlib.Core.Bool.{true≢false}
 use mathlib.Core.Path.{sym}
 use borrow.Author.Tests.{not-true}
@@ -10,10 +10,13 @@ returns : tie.Need-returns
 returns c = λ e. absurd (true≢false (sym e))
 
 returns-2 : tie.Need-returns-2
-returns-2 c = λ e. absurd (true≢false (sym e))
+returns-2 c = λ e. c .before .hopeful .ensures (not-true _ (c .if3 .taken))
 
 returns-3 : tie.Need-returns-3
-returns-3 c = λ e. c .some-way .ensures (not-true _ e)
+returns-3 c = λ e. absurd (true≢false (sym e))
+
+returns-4 : tie.Need-returns-4
+returns-4 c = λ e. c .some-way .ensures (not-true _ e)
 
 pub lost-spec : {M : Type 1} → statement M
 lost-spec =
@@ -21,9 +24,11 @@ lost-spec =
     (tie.spec
     (λ c κs. search needs)  -- branches-requires
     returns
-    (λ c κs. search needs)  -- with-requires
-    (λ c κs. search needs)  -- marked-requires
     (λ c κs. search needs)  -- hopeful-requires
     returns-2
+    (λ c κs. search needs)  -- with-requires
+    (λ c κs. search needs)  -- marked-requires
+    (λ c κs. search needs)  -- hopeful-requires-2
+    returns-3
     (λ c κs. search needs)  -- some-way-requires
-    returns-3)
+    returns-4)
