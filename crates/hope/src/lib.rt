@@ -137,8 +137,8 @@ fn branches<'a>(succ: &'a Sets, visited: Set, v: usize) -> bool
     lowest(succ[v], with(visited, k)) != Graph::NODES
 }
 
-// Whether it is seen at v that no route goes on and leaves its ends unordered. That is looked for only if the walk is wary, since most that
-// have not failed yet never do; and only where there are several ways on: one is cheaper taken than judged.
+// Whether it is seen at v that no route goes on and leaves its ends unordered. That is looked for only if the walk is wary, once some way has
+// failed; and only where there are several ways on: one is cheaper taken than judged.
 pub fn hopeless<'a>(
     succ: &'a Sets,
     fits: &'a Sets,
