@@ -13,7 +13,7 @@ use Rattle.graph.specs.declared.Order.{Order}
 use Rattle.lightest.specs.Apart.{Apart, Known}
 use Rattle.cut.specs.Chosen.{Chosen}
 use Rattle.cut.specs.Given.{Copied, Differ, Gathered}
-use Rattle.lightest.specs.Made.{Made}
+use Rattle.lightest.specs.Made.{Made, cutOf, edgesOf}
 use Rattle.lightest.specs.Sets.{Least}
 use Rattle.graph.specs.Graph.{Sound, Orderly, order, no-order}
 use Rattle.graph.specs.Held.{Held, Open}
@@ -103,11 +103,11 @@ module _ (g : Value.Graph) (sized : Sized g) where
               (omega (arith, p, d .0), omega (arith, q, d .1), λ z. d .2 (sym p ∙ z ∙ q));
         }
 
-        pub given-chosen : Told g flags → (r : Cut) → Made (lent (g .«edge_count») ws) r
-            → Least (lent (g .«edge_count») ws) (Apart (lent (g .«edge_count») xs) (lent (g .«edge_count») ys) (lent n us) (lent n vs)) (r .chosen) → Chosen g r
+        pub given-chosen : Told g flags → (r : Cut) → Made (lent (g .«edge_count») ws) (cutOf r)
+            → Least (lent (g .«edge_count») ws) (Apart (lent (g .«edge_count») xs) (lent (g .«edge_count») ys) (lent n us) (lent n vs)) (edgesOf (r .chosen)) → Chosen g r
         given-chosen told r made least = record {
-          best = chosen-of (graphOf g) (rulesOf g) (ordersOf g) sound edges-few _ _ _ _ _ drawn (given-asks told) apart-ends (r .chosen) (made .edges) least;
-          sum = sym (made .sum) ∙ weight-of (graphOf g) (rulesOf g) (ordersOf g) sound edges-few _ _ _ _ _ drawn (given-asks told) apart-ends (r .chosen);
+          best = chosen-of (graphOf g) (rulesOf g) (ordersOf g) sound edges-few _ _ _ _ _ drawn (given-asks told) apart-ends (edgesOf (r .chosen)) (made .edges) least;
+          sum = sym (made .sum) ∙ weight-of (graphOf g) (rulesOf g) (ordersOf g) sound edges-few _ _ _ _ _ drawn (given-asks told) apart-ends (edgesOf (r .chosen));
           small = made .small;
           long = made .edges .long;
           below = λ e h. omega (arith, made .edges .known e h .0, lent-long (g .«edge_count») ws (omega (arith, c .sizes .2, sized .edges)));

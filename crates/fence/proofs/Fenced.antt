@@ -1,5 +1,6 @@
 -- Run over a graph by value: one law for each way out.
 -- Assumes nothing.
+use mathlib.Core.Bool.{Bool}
 use mathlib.Core.List.{List}
 use mathlib.Core.Logic.{inl, inr}
 use mathlib.Core.Path.{_∙_, _≡_, ap, subst, subst⁻¹, sym}
@@ -14,10 +15,11 @@ use Rattle.fence.specs.Outcome.{Reads, RunOutcome, fencedFile, over, ref
 use Rattle.fence.specs.Ready.{Ready}
 use Rattle.fencing.specs.Kept.{Kept}
 use Rattle.lightest.specs.declared.Cut.{Cut}
-use Rattle.graph.specs.Cut.{weight}
+use Rattle.lightest.specs.Made.{edgesOf}
+use Rattle.graph.specs.Cut.{ChosenCut, weight}
 use Rattle.graph.specs.Graph.{Orderly}
 use Rattle.graph.specs.Limits.{most-edges, most-nodes}
-use Rattle.graph.specs.Value.{Roomy, Sized, graphOf, ordersOf, rising}
+use Rattle.graph.specs.Value.{Roomy, Sized, graphOf, ordersOf, rising, rulesOf}
 use Rattle.graph.specs.Written.{written}
 use Rattle.request.specs.File.{bytes}
 use Rattle.writing.specs.Write.{Written, requestIn, sizeOf}
@@ -31,41 +33,44 @@ use Rattle.graph.specs.declared.Graph as Value
 pub ready-orderly : (g : Value.Graph) → Ready g → Orderly (g .«node_count») (ordersOf g)
 ready-orderly g ready = subst (λ (n : ℕ). Orderly n (ordersOf g)) (node-total g (ready .sized) (ready .roomy)) (ready .proper .orderly)
 
-module _ (g : Value.Graph) (ready : Ready g) (cut : Cut) (best : Chosen g cut) (k : ℕ) (hk : k ≡ length (rising 0 (cut .chosen))) (o : List ℕ) where
+module _ (g : Value.Graph) (ready : Ready g) (cut : Cut) (best : Chosen g cut) (flags : List Bool) (is : flags ≡ edgesOf (cut .chosen)) (k : ℕ) (hk : k ≡ length (rising 0 flags)) (o : List ℕ) where
   nodes : length ((graphOf g) .nodes) ≡ g .«node_count»
   nodes = node-total g (ready .sized) (ready .roomy)
 
   edges : length ((graphOf g) .edges) ≡ g .«edge_count»
   edges = edge-total g (ready .sized) (ready .roomy)
 
+  chosen : ChosenCut (graphOf g) (rulesOf g) (ordersOf g) (rising 0 flags)
+  chosen = subst⁻¹ (λ (l : List Bool). ChosenCut (graphOf g) (rulesOf g) (ordersOf g) (rising 0 l)) is (best .best)
+
   -- what is the case where run refuses
   abbrev pub Refuses : Answer → Report → Type 0
   Refuses a r = r ≡ refusal a 0 → (s : List ℕ) → Reads s (requestIn g) → RunOutcome s o r o
 
   pub full-nodes : most-nodes < g .«node_count» + k → (r : Report) → Refuses NoRoom r
-  full-nodes h r e s reads = subst⁻¹ (λ (x : Report). RunOutcome s o x o) e (run-crowded s (requestIn g) (rising 0 (cut .chosen)) reads (best .best) o (inl (omega (arith, nodes))))
+  full-nodes h r e s reads = subst⁻¹ (λ (x : Report). RunOutcome s o x o) e (run-crowded s (requestIn g) (rising 0 flags) reads chosen o (inl (omega (arith, nodes))))
 
   pub full-edges : most-edges < g .«edge_count» + k → (r : Report) → Refuses NoRoom r
-  full-edges h r e s reads = subst⁻¹ (λ (x : Report). RunOutcome s o x o) e (run-crowded s (requestIn g) (rising 0 (cut .chosen)) reads (best .best) o (inr (omega (arith, edges))))
+  full-edges h r e s reads = subst⁻¹ (λ (x : Report). RunOutcome s o x o) e (run-crowded s (requestIn g) (rising 0 flags) reads chosen o (inr (omega (arith, edges))))
 
-  module _ (few : g .«node_count» + k ≤ most-nodes) (fewer : g .«edge_count» + k ≤ most-edges) (h : Value.Graph) (same : graphOf h ≡ written (graphOf g) (rising 0 (cut .chosen))) (kept : Kept g h × Sized h × Roomy h) where
-    uncrowded : Crowded (requestIn g) (rising 0 (cut .chosen)) → ⊥
+  module _ (few : g .«node_count» + k ≤ most-nodes) (fewer : g .«edge_count» + k ≤ most-edges) (h : Value.Graph) (same : graphOf h ≡ written (graphOf g) (rising 0 flags)) (kept : Kept g h × Sized h × Roomy h) where
+    uncrowded : Crowded (requestIn g) (rising 0 flags) → ⊥
     uncrowded (inl x) = omega (arith, nodes)
     uncrowded (inr x) = omega (arith, edges)
 
-    file : bytes (requestIn h) ≡ fencedFile (requestIn g) (rising 0 (cut .chosen))
-    file = ap bytes (kept-request g h (kept .0) (written (graphOf g) (rising 0 (cut .chosen))) same)
+    file : bytes (requestIn h) ≡ fencedFile (requestIn g) (rising 0 flags)
+    file = ap bytes (kept-request g h (kept .0) (written (graphOf g) (rising 0 flags)) same)
 
-    size : length (fencedFile (requestIn g) (rising 0 (cut .chosen))) ≡ sizeOf h
+    size : length (fencedFile (requestIn g) (rising 0 flags)) ≡ sizeOf h
     size = sym (ap length file) ∙ bytes-size h (kept .1) (kept .2)
 
     pub short-buffer : length o < sizeOf h → (r : Report) → Refuses ShortBuffer r
-    short-buffer l r e s reads = subst⁻¹ (λ (x : Report). RunOutcome s o x o) e (run-short s (requestIn g) (rising 0 (cut .chosen)) reads (best .best) o uncrowded (omega (arith, size)))
+    short-buffer l r e s reads = subst⁻¹ (λ (x : Report). RunOutcome s o x o) e (run-short s (requestIn g) (rising 0 flags) reads chosen o uncrowded (omega (arith, size)))
 
     pub file-written : (o′ : List ℕ) (n : ℕ) → Written o o′ 0 n (bytes (requestIn h)) → (s : List ℕ) → Reads s (requestIn g)
         → RunOutcome s o (record { answer = 0; place = 0; fences = k; weight = cut .weight; length = n }) o′
     file-written o′ n w s reads =
-        let m : n ≡ length (fencedFile (requestIn g) (rising 0 (cut .chosen))) = omega (arith, w .next, ap length file) in
-        run-accepted s (requestIn g) (rising 0 (cut .chosen)) reads (best .best) o uncrowded (omega (arith, w .room)) _ o′
-        (λ i. record { answer = 0; place = 0; fences = hk i; weight = best .sum i; length = m i })
+        let m : n ≡ length (fencedFile (requestIn g) (rising 0 flags)) = omega (arith, w .next, ap length file) in
+        run-accepted s (requestIn g) (rising 0 flags) reads chosen o uncrowded (omega (arith, w .room)) _ o′
+        (λ i. record { answer = 0; place = 0; fences = hk i; weight = (best .sum ∙ sym (ap (λ (l : List Bool). weight (graphOf g) (rising 0 l)) is)) i; length = m i })
         (written-over w ∙ ap (over o) file)

@@ -2,14 +2,15 @@
 -- Assumes nothing.
 use mathlib.Core.Bool.{Bool, true, false}
 use mathlib.Core.Path.{_≡_, refl, sym, ap, _∙_, subst}
-use Prim.Native.Nat.{ℕ, suc, _/_, _%_, _^_, _<_}
+use Prim.Native.Nat.{ℕ, suc, _/_, _%_, _+_, _^_, _<_}
 use native.Mathlib.Decide.{decLt}
 use native.Mathlib.Nat.{lt-of-lt-of-le, div-one, mod-lt, div-eq-of-lt, zero-lt-suc}
 use native.Mathlib.Numerals.{one-add}
 use native.Mathlib.Omega.{arith}
 use lib.Pow.{pow-pos, pow-mono, shr-shr}
+use lib.Dec.{eqb}
 use borrow.Author.Tests.{eq-eqb, ne-eqb, eqb-true, eqb-false}
-use Rattle.flags.specs.Flag.{digit, flag}
+use Rattle.flags.specs.Flag.{digit, flag, above}
 
 -- what is not set is clear
 pub unset : {b : Bool} → (b ≡ true → ⊥) → b ≡ false
@@ -66,3 +67,7 @@ digit-half n j = ap (λ (x : ℕ). x % 2) (ap (λ (x : ℕ). n / 2 ^ x) (sym (on
 pub digit-odd : (n : ℕ) → digit n 0 ≡ n % 2
 unfolding digit
 digit-odd n = ap (λ (x : ℕ). x % 2) (div-one n)
+
+pub flag-above : (w k j : ℕ) → flag (above w k) j ≡ flag w (k + j)
+unfolding digit flag above
+flag-above w k j = ap (λ (x : ℕ). eqb (x % 2) 1) (shr-shr w k j)

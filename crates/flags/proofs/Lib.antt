@@ -3,3 +3,4 @@ pub mod Digit
 pub mod Put
 pub mod Pair
 pub mod Least
+pub mod Same

@@ -7,9 +7,9 @@ use Prim.Native.Nat.{ℕ, zero, suc, _/_, _%_, _^_, _<_, min, max}
 use native.Mathlib.Nat.{mod-lt, zero-lt-suc}
 use native.Mathlib.Omega.{arith}
 use lib.Arith.{digits-mod}
-use lib.Bits.{bitOr, bitAnd, bitXor, differ, xor-step, xor-shr}
+use lib.Bits.{bitOr, bitAnd, bitXor, differ, xor-step, xor-shr, and-zero-r, xor-zero-r}
 use Rattle.flags.specs.Flag.{digit, flag, either, both, less}
-use Rattle.flags.proofs.Digit.{clear-flag, digit-lt, flag-clear, flag-set, set-flag}
+use Rattle.flags.proofs.Digit.{unset, clear-flag, digit-lt, flag-clear, flag-set, set-flag}
 use Rattle.flags.proofs.Put.{digit-and, digit-or}
 
 pub either-l : (a b k : ℕ) → flag a k ≡ true → flag (either a b) k ≡ true
@@ -72,6 +72,21 @@ less-out a b k q = by (flag a k) refl
     by : (x : Bool) → flag a k ≡ x → flag (less a b) k ≡ false
     by true p = clear-flag (less a b) k (digit-less a b k 1 1 (flag-set a k p) (flag-set b k q))
     by false p = clear-flag (less a b) k (digit-less a b k 0 1 (flag-clear a k p) (flag-set b k q))
+
+pub less-new : (a b k : ℕ) → flag (less a b) k ≡ true → flag b k ≡ false
+less-new a b k e = unset (λ p. true≢false (sym e ∙ less-out a b k p))
+
+-- what is gone of a is in b
+pub less-gone : (a b k : ℕ) → flag (less a b) k ≡ false → flag a k ≡ true → flag b k ≡ true
+less-gone a b k e h = by (flag b k) refl
+  where
+    by : (x : Bool) → flag b k ≡ x → flag b k ≡ true
+    by true p = p
+    by false p = absurd (true≢false (sym (less-in a b k h p) ∙ e))
+
+pub less-zero : (a : ℕ) → less a 0 ≡ a
+unfolding less
+less-zero a = ap (bitXor a) (and-zero-r a) ∙ xor-zero-r a
 
 -- ---- the same as one equation
 

@@ -7,6 +7,7 @@ use sets::both;
 use sets::either;
 use sets::has;
 use sets::lowest;
+use sets::lowest_from;
 use sets::none;
 use sets::put_in;
 use sets::with;
@@ -24,14 +25,23 @@ ghost use Rattle.hope.specs.Rest.{Next, mark};
 ghost use Rattle.hope.specs.Hope.{Into, Lowered};
 
 // The nodes that are ordered after the first if they come next, once the route has gone on to v.
+pub fn mark_on<'a, 'b>(fits: &'a Sets, after: &'b mut Set, v: usize)
+    requires { ⌜ v < most-nodes ⌝ }
+    ensures { λ r. ⌜ whole (now (after .exit)) ≡ mark (rows (now (fits .entry))) (whole (now (after .entry))) v ⌝ }
+{
+    if has(after, v) {
+        *after = either(*after, fits[v]);
+    }
+}
+
+// The same, of a set by value.
 pub fn marked<'a>(fits: &'a Sets, after: Set, v: usize) -> Set
     requires { ⌜ v < most-nodes ⌝ }
     ensures { λ r. ⌜ whole r ≡ mark (rows (now (fits .entry))) (whole after) v ⌝ }
 {
-    if !has(&after, v) {
-        return after;
-    }
-    either(after, fits[v])
+    let mut more = after;
+    mark_on(fits, &mut more, v);
+    more
 }
 
 // Those of the first n nodes that some rule fits with the goal.
@@ -92,20 +102,22 @@ pub fn hopeful<'a>(
     succ: &'a Sets,
     fits: &'a Sets,
     goal: usize,
-    into: Set,
-    visited: Set,
-    after: Set,
+    into: &'a Set,
+    visited: &'a Set,
+    after: &'a Set,
     least: &'a mut Sets,
     v: usize,
 ) -> bool
-    requires { ⌜ (v < most-nodes) × (goal < most-nodes) × Into (rows (now fits)) goal (whole into) ⌝ }
-    ensures { λ r. ⌜ (r ≡ false → (l : List ℕ) → Next (rows (now (succ .entry))) (rows (now (fits .entry))) goal (whole visited) (whole after) v l → ⊥) ⌝ }
+    requires { ⌜ (v < most-nodes) × (goal < most-nodes) × Into (rows (now fits)) goal (whole (now into)) ⌝ }
+    ensures { λ r. ⌜ (r ≡ false → (l : List ℕ) → Next (rows (now (succ .entry))) (rows (now (fits .entry))) goal (whole (now (visited .entry))) (whole (now (after .entry))) v l → ⊥) ⌝ }
 {
-    if has(&after, goal) {
+    if has(after, goal) {
         return false;
     }
-    let first = without(succ[v], either(visited, both(after, into)));
-    let mut left = lower(least, none(), first, after);
+    let seen = *visited;
+    let last = *into;
+    let first = without(succ[v], either(seen, both(*after, last)));
+    let mut left = lower(least, none(), first, *after);
     let mut met = left;
     for _round in 0..ROUNDS {
         if came_open(least, met, goal) {
@@ -116,7 +128,7 @@ pub fn hopeful<'a>(
             return false;
         }
         let m = marked(fits, least[x], x);
-        let next = without(succ[x], either(visited, both(m, into)));
+        let next = without(succ[x], either(seen, both(m, last)));
         let fell = lower(least, met, next, m);
         let wider = either(met, fell);
         met = wider;
@@ -127,14 +139,14 @@ pub fn hopeful<'a>(
 }
 
 // Whether a route that has come to v has several ways on.
-fn branches<'a>(succ: &'a Sets, visited: Set, v: usize) -> bool
+fn branches<'a>(succ: &'a Sets, visited: &'a Set, v: usize) -> bool
     requires { ⌜ v < most-nodes ⌝ }
 {
-    let k = lowest(succ[v], visited);
+    let k = lowest_from(&succ[v], visited, 0);
     if k == Graph::NODES {
         return false;
     }
-    lowest(succ[v], with(visited, k)) != Graph::NODES
+    lowest_from(&succ[v], visited, k + 1) != Graph::NODES
 }
 
 // Whether it is seen at v that no route goes on and leaves its ends unordered. That is looked for only if the walk is wary, once some way has
@@ -143,15 +155,15 @@ pub fn hopeless<'a>(
     succ: &'a Sets,
     fits: &'a Sets,
     goal: usize,
-    into: Set,
-    visited: Set,
-    after: Set,
+    into: &'a Set,
+    visited: &'a Set,
+    after: &'a Set,
     least: &'a mut Sets,
     wary: bool,
     v: usize,
 ) -> bool
-    requires { ⌜ (v < most-nodes) × (goal < most-nodes) × Into (rows (now fits)) goal (whole into) ⌝ }
-    ensures { λ r. ⌜ (r ≡ true → (l : List ℕ) → Next (rows (now (succ .entry))) (rows (now (fits .entry))) goal (whole visited) (whole after) v l → ⊥) ⌝ }
+    requires { ⌜ (v < most-nodes) × (goal < most-nodes) × Into (rows (now fits)) goal (whole (now into)) ⌝ }
+    ensures { λ r. ⌜ (r ≡ true → (l : List ℕ) → Next (rows (now (succ .entry))) (rows (now (fits .entry))) goal (whole (now (visited .entry))) (whole (now (after .entry))) v l → ⊥) ⌝ }
 {
     if !wary {
         return false;

@@ -46,24 +46,25 @@ fn some_way<'a>(
     succ: &'a Sets,
     fits: &'a Sets,
     goal: usize,
-    visited: Set,
-    after: Set,
+    visited: &'a Set,
+    after: &'a Set,
     kept: &'a mut Sets,
     v: usize,
 ) -> bool
     requires { ⌜ (v < most-nodes) × (goal < most-nodes) ⌝ }
-    ensures { λ r. ⌜ (r ≡ false → (l : List ℕ) → Next (rows (now (succ .entry))) (rows (now (fits .entry))) goal (whole visited) (whole after) v l → ⊥) ⌝ }
+    ensures { λ r. ⌜ (r ≡ false → (l : List ℕ) → Next (rows (now (succ .entry))) (rows (now (fits .entry))) goal (whole (now (visited .entry))) (whole (now (after .entry))) v l → ⊥) ⌝ }
 {
     sized(*kept);
     let mut nodes = [0usize; PAIRS];
     nodes[0] = v;
-    kept[0] = after;
+    kept[0] = *after;
+    let seen = *visited;
     let mut n = 1;
     let mut i = 0;
     while i < n {
         let next = succ[nodes[i]];
         let ordered = kept[i];
-        let mut tried = visited;
+        let mut tried = seen;
         loop {
             let y = lowest(next, tried);
             if y == Graph::NODES {
@@ -96,16 +97,16 @@ pub fn lost<'a>(
     succ: &'a Sets,
     fits: &'a Sets,
     goal: usize,
-    into: Set,
-    visited: Set,
-    after: Set,
+    into: &'a Set,
+    visited: &'a Set,
+    after: &'a Set,
     scratch: &'a mut Sets,
     wary: bool,
     v: usize,
     k: usize,
 ) -> bool
-    requires { ⌜ (v < most-nodes) × (k < most-nodes) × (goal < most-nodes) × Into (rows (now fits)) goal (whole into) ⌝ }
-    ensures { λ r. ⌜ (r ≡ true → (l : List ℕ) → Next (rows (now (succ .entry))) (rows (now (fits .entry))) goal (whole visited) (whole after) v l → ⊥) ⌝ }
+    requires { ⌜ (v < most-nodes) × (k < most-nodes) × (goal < most-nodes) × Into (rows (now fits)) goal (whole (now into)) ⌝ }
+    ensures { λ r. ⌜ (r ≡ true → (l : List ℕ) → Next (rows (now (succ .entry))) (rows (now (fits .entry))) goal (whole (now (visited .entry))) (whole (now (after .entry))) v l → ⊥) ⌝ }
 {
     if !branches(succ, visited, v) {
         return false;
@@ -115,16 +116,9 @@ pub fn lost<'a>(
             return true;
         }
     }
-    if !hopeful(
-        succ,
-        fits,
-        goal,
-        into,
-        with(visited, k),
-        marked(fits, after, k),
-        scratch,
-        k,
-    ) {
+    let longer = with(*visited, k);
+    let later = marked(fits, *after, k);
+    if !hopeful(succ, fits, goal, into, &longer, &later, scratch, k) {
         return false;
     }
     !some_way(succ, fits, goal, visited, after, scratch, v)

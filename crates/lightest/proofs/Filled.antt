@@ -9,10 +9,9 @@ use native.Mathlib.Decide.{ℕ-discrete}
 use native.Mathlib.Omega.{arith}
 use lib.ListN.{length, getD}
 use borrow.Author.Count.{below-more}
-use Rattle.lightest.specs.declared.Cut.{Cut}
 use Rattle.route.specs.declared.Route.{Route}
 use Rattle.lightest.specs.Apart.{Apart, Known}
-use Rattle.lightest.specs.Made.{Made}
+use Rattle.lightest.specs.Made.{Cut, Made}
 use Rattle.lightest.specs.Search.{Branch, Fair, Next, Unspent, Smallest, Reduced, Packed, Bounded}
 use Rattle.lightest.specs.Sets.{Has, weigh}
 use Rattle.graph.specs.Limits.{most-edges}

@@ -8,8 +8,7 @@ use native.Mathlib.Decide.{ℕ-discrete}
 use native.Mathlib.Omega.{arith}
 use lib.ListN.{getD, length, length-replicate, length-set, replicate, set}
 use lib.Seq.{getD-set-other, getD-set-same}
-use Rattle.lightest.specs.declared.Cut.{Cut}
-use Rattle.lightest.specs.Made.{Made, most-weight}
+use Rattle.lightest.specs.Made.{Cut, Made, most-weight}
 use Rattle.lightest.specs.Sets.{Edges, Has, PartOf, weigh}
 use Rattle.graph.specs.Cut.{total}
 use Rattle.graph.specs.Limits.{most-edges}

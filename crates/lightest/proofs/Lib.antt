@@ -8,3 +8,4 @@ pub mod Filled
 pub mod Tried
 pub mod Listed
 pub mod Whole
+pub mod Flags

@@ -9,9 +9,7 @@ use native.Mathlib.Omega.{arith}
 use lib.ListN.{length, getD, set, replicate}
 use lib.Seq.{getD-set-same, getD-set-other, ext-getD}
 use borrow.Author.Count.{below-more}
-use Rattle.lightest.specs.declared.Cut.{Cut}
-use Rattle.lightest.specs.declared.Pick.{Pick}
-use Rattle.lightest.specs.Made.{Made}
+use Rattle.lightest.specs.Made.{Cut, Pick, Made}
 use Rattle.lightest.specs.Search.{Packed, Lightest, Picked}
 use Rattle.lightest.specs.Sets.{Has, Edges, PartOf, Least, weigh}
 use Rattle.graph.specs.Cut.{First}

@@ -7,9 +7,8 @@ use mathlib.Core.Path.{_≡_, refl, sym, ap, _∙_}
 use Prim.Native.Nat.{ℕ, zero, suc, _<_, _≤_}
 use native.Mathlib.Omega.{arith}
 use lib.ListN.{length, getD, replicate}
-use Rattle.lightest.specs.declared.Cut.{Cut}
-use Rattle.lightest.specs.declared.Pick.{Pick}
 use Rattle.lightest.specs.Apart.{Apart, Known}
+use Rattle.lightest.specs.Made.{Cut, Pick}
 use Rattle.lightest.specs.Search.{Picked}
 use Rattle.lightest.specs.Sets.{Has, Edges}
 use Rattle.graph.specs.Limits.{most-edges}

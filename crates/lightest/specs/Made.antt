@@ -1,13 +1,43 @@
--- Cuts with their weight, and the lighter of two answers.
+-- Cuts with their weight, what the values of the code say of them, and the lighter of two answers.
 -- Assumes nothing.
-use mathlib.Core.Bool.{true}
-use mathlib.Core.List.{List}
+use mathlib.Core.Bool.{Bool, true}
+use mathlib.Core.List.{List, [], _∷_}
 use mathlib.Core.Logic.{_⊎_}
 use mathlib.Core.Path.{_≡_}
-use Prim.Native.Nat.{ℕ, _<_, _≤_}
-use Rattle.lightest.specs.declared.Cut.{Cut}
-use Rattle.lightest.specs.declared.Pick.{Pick}
+use Prim.Native.Nat.{ℕ, zero, suc, _<_, _≤_}
+use Rattle.flags.specs.Flag.{flag}
+use Rattle.sets.specs.Whole.{whole}
+use Rattle.graph.specs.Limits.{most-edges}
+use Rattle.lightest.specs.declared.Cut as Value
+use Rattle.lightest.specs.declared.Pick as Weighed
 use Rattle.lightest.specs.Sets.{weigh, Edges}
+
+-- a set of edges, a flag for each number, and its weight
+pub record Cut : Type 0 where
+  pub chosen : List Bool
+  pub weight : ℕ
+
+-- a cut, or none where found is false
+pub record Pick : Type 0 where
+  pub found : Bool
+  pub cut : Cut
+
+-- the flags k, k + 1, .. of a number, n of them
+unfoldable pub flagsFrom : ℕ → ℕ → ℕ → List Bool
+flagsFrom k zero w = []
+flagsFrom k (suc n) w = flag w k ∷ flagsFrom (suc k) n w
+
+-- the edges in words, a flag for each number
+abbrev pub edgesOf : List ℕ → List Bool
+edgesOf words = flagsFrom 0 most-edges (whole words)
+
+-- the cut that a value holds
+abbrev pub cutOf : Value.Cut → Cut
+cutOf c = record { chosen = edgesOf (c .chosen); weight = c .weight }
+
+-- the answer that a value gives, with its edges in the words beside it
+abbrev pub pickOf : Weighed.Pick → List ℕ → Pick
+pickOf p words = record { found = p .found; cut = record { chosen = edgesOf words; weight = p .weight } }
 
 -- "exact because weights are below 2^24": 2^26 with 1,024 edges, which weigh at most 67,107,840
 abbrev pub most-weight : ℕ
@@ -20,5 +50,5 @@ pub record Made (ws : List ℕ) (c : Cut) : Type 0 where
   pub small : c .weight < most-weight
 
 -- r is the lighter of a and b, a where they weigh the same; an answer that found none loses
-abbrev pub Lighter : Pick → Pick → Pick → Type 0
-Lighter a b r = ((r ≡ a) × (a .found ≡ true) × (b .found ≡ true → a .cut .weight ≤ b .cut .weight)) ⊎ ((r ≡ b) × (a .found ≡ true → (b .found ≡ true) × (b .cut .weight < a .cut .weight)))
+abbrev pub Lighter : Weighed.Pick → Weighed.Pick → Weighed.Pick → Type 0
+Lighter a b r = ((r ≡ a) × (a .found ≡ true) × (b .found ≡ true → a .weight ≤ b .weight)) ⊎ ((r ≡ b) × (a .found ≡ true → (b .found ≡ true) × (b .weight < a .weight)))

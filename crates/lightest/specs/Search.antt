@@ -5,11 +5,10 @@ use mathlib.Core.List.{List}
 use mathlib.Core.Path.{_≡_}
 use Prim.Native.Nat.{ℕ, _+_, _<_, _≤_}
 use lib.ListN.{length, getD}
-use Rattle.lightest.specs.declared.Cut.{Cut}
-use Rattle.lightest.specs.declared.Pick.{Pick}
+use Rattle.flags.specs.Flag.{flag}
 use Rattle.lightest.specs.declared.pack.Packing.{Packing}
 use Rattle.route.specs.declared.Route.{Route}
-use Rattle.lightest.specs.Made.{Made, most-weight}
+use Rattle.lightest.specs.Made.{Cut, Pick, Made, most-weight}
 use Rattle.lightest.specs.Sets.{Has, Edges, PartOf, weigh}
 use Rattle.graph.specs.Limits.{most-edges, most-nodes}
 
@@ -56,6 +55,18 @@ pub record Bounded (ws : List ℕ) (P : List Bool → Type 0) (s : Cut) (b : Pac
   pub packed : Packed ws P s (b .left) (b .sum)
   pub none : b .route .len ≡ 0 → P (s .chosen)
   pub next : 0 < b .route .len → Next ws P (s .chosen) (b .route)
+
+-- w has the first n edges of the route, and no other
+pub record Marks (route : Route) (n w : ℕ) : Type 0 where
+  pub all : (k : ℕ) → k < n → flag w (getD (route .edges) k 0) ≡ true
+  pub only : (e : ℕ) → flag w e ≡ true → (k : ℕ) × (k < n) × (getD (route .edges) k 0 ≡ e)
+
+-- what a level knows of the branch of s: a bound, and edges to go on with, or that s is a cut
+pub record Levelled (ws : List ℕ) (P : List Bool → Type 0) (s : Cut) (route len sum : ℕ) : Type 0 where
+  pub packed : (left : List ℕ) × Packed ws P s left sum
+  pub none : len ≡ 0 → P (s .chosen)
+  pub edge : 0 < len → (e : ℕ) → flag route e ≡ true → (e < length ws) × (1 ≤ getD ws e 0) × (getD (s .chosen) e false ≡ false)
+  pub must : 0 < len → (t : List Bool) → P t → (e : ℕ) × (flag route e ≡ true) × Has t e
 
 -- a cut of the branch that weighs at most a more than s, and than which none of the branch is lighter
 pub record Lightest (ws : List ℕ) (P : List Bool → Type 0) (s : Cut) (a : ℕ) (c : Cut) : Type 0 where

@@ -5,56 +5,72 @@ ghost use Prim.Native.Nat.{_+_, _<_};
 ghost use lib.ListN.{set, replicate};
 ghost use lib.IntN.{pos, _-ℤ_};
 ghost use Rattle.graph.specs.Limits.{most-edges};
-ghost use Rattle.lightest.specs.Made.{most-weight, Lighter};
+ghost use Rattle.lightest.specs.Made.{edgesOf, most-weight, Lighter};
 use graph::Graph;
+use sets::wide::WideSet;
+use sets::wide::has;
+use sets::wide::none;
+use sets::wide::put_in;
 
 mod pack;
 pub mod search;
 
-// A set of edges, a flag for each number, and its weight.
+// A set of edges and its weight.
 pub struct Cut {
-    pub chosen: [bool; Graph::EDGES],
+    pub chosen: WideSet,
     pub weight: u32,
 }
 
-// A cut, or none where found is false.
+// The weight of a cut, or none where found is false.
 pub struct Pick {
     pub found: bool,
-    pub cut: Cut,
+    pub weight: u32,
 }
 
 impl Cut {
     pub fn empty() -> Self
-        ensures { λ r. ⌜ (r .weight ≡ 0) × (r .chosen ≡ replicate most-edges false) ⌝ }
+        ensures { λ r. ⌜ (r .weight ≡ 0) × (edgesOf (r .chosen) ≡ replicate most-edges false) ⌝ }
     {
-        Cut {
-            chosen: [false; Graph::EDGES],
-            weight: 0,
-        }
+        let chosen = none();
+        Cut { chosen, weight: 0 }
     }
 
     pub fn with_edge(self, e: usize, w: u32) -> Self
         requires { ⌜ (e < most-edges) × (self .weight + w < most-weight) ⌝ }
-        ensures { λ r. ⌜ (r .chosen ≡ set (self .chosen) e true) × (r .weight ≡ self .weight + w) ⌝ }
+        ensures { λ r. ⌜ (edgesOf (r .chosen) ≡ set (edgesOf (self .chosen)) e true) × (r .weight ≡ self .weight + w) ⌝ }
     {
-        let mut next = self;
-        next.chosen[e] = true;
-        next.weight = self.weight + w;
-        next
+        let mut chosen = self.chosen;
+        put_in(&mut chosen, e);
+        Cut {
+            chosen,
+            weight: self.weight + w,
+        }
     }
 
-    pub fn heavier_by(self, other: Cut) -> i64
+    // A flag for each edge number.
+    pub fn flags(self) -> [bool; Graph::EDGES]
+        ensures { λ r. ⌜ r ≡ edgesOf (self .chosen) ⌝ }
+    {
+        let chosen = self.chosen;
+        let mut flags = [false; Graph::EDGES];
+        for e in 0..Graph::EDGES {
+            flags[e] = has(&chosen, e);
+        }
+        flags
+    }
+}
+
+impl Pick {
+    pub fn heavier_by(self, other: Pick) -> i64
         requires { ⌜ (self .weight < most-weight) × (other .weight < most-weight) ⌝ }
         ensures { λ r. ⌜ r ≡ pos (self .weight) -ℤ pos (other .weight) ⌝ }
     {
         (self.weight as i64) - (other.weight as i64)
     }
-}
 
-impl Pick {
     // The lighter of two; self where they are as heavy.
     pub fn lighter(self, other: Pick) -> Pick
-        requires { ⌜ (self .cut .weight < most-weight) × (other .cut .weight < most-weight) ⌝ }
+        requires { ⌜ (self .weight < most-weight) × (other .weight < most-weight) ⌝ }
         ensures { λ r. ⌜ Lighter self other r ⌝ }
     {
         if !self.found {
@@ -63,9 +79,7 @@ impl Pick {
         if !other.found {
             return self;
         }
-        let a = self.cut;
-        let b = other.cut;
-        let d = a.heavier_by(b);
+        let d = self.heavier_by(other);
         if 0 < d {
             return other;
         }

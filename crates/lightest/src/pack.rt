@@ -3,13 +3,14 @@ ghost use mathlib.Core.Path.{_≡_};
 ghost use Prim.Native.Nat.{_+_, _<_, _≤_};
 ghost use lib.ListN.{length, getD};
 ghost use Rattle.graph.specs.Limits.{most-edges};
-ghost use Rattle.lightest.specs.Made.{Made, most-weight};
+ghost use Rattle.lightest.specs.Made.{Made, cutOf, edgesOf, most-weight};
 ghost use Rattle.lightest.specs.Apart.{Apart, Known};
 ghost use Rattle.lightest.specs.Search.{Fair, Unspent, Smallest, Reduced, Bounded};
 use crate::Cut;
 use graph::Graph;
 use route::Route;
 use route::wide;
+use sets::wide::has;
 
 pub struct Residue {
     pub left: [u16; Graph::EDGES],
@@ -39,15 +40,16 @@ pub fn edge_at(edges: &[u16; Graph::NODES], n: usize, i: usize) -> usize
 // The weights, and 0 for an edge that s has.
 fn unspent(ws: &[u16], s: Cut) -> Residue
     requires { ⌜ length (now ws) ≤ most-edges ⌝ }
-    ensures { λ r. ⌜ (length (r .left) ≡ most-edges) × Unspent (now (ws .entry)) (s .chosen) (r .left) ⌝ }
+    ensures { λ r. ⌜ (length (r .left) ≡ most-edges) × Unspent (now (ws .entry)) (edgesOf (s .chosen)) (r .left) ⌝ }
 {
     let mut r = Residue {
         left: [0u16; Graph::EDGES],
     };
+    let chosen = s.chosen;
     let n = ws.len();
     let mut e = 0;
     while e < n {
-        if !s.chosen[e] {
+        if !has(&chosen, e) {
             r.left[e] = ws[e];
         }
         e += 1;
@@ -102,8 +104,8 @@ pub fn bound(
     allowance: u32,
 ) -> Packing
     requires { ⌜ Known (now from) (now to) (now links) (now ws) (now firsts) (now seconds) ⌝ }
-    requires { ⌜ (Made (now ws) s) × (s .weight + allowance < most-weight) ⌝ }
-    ensures { λ r. ⌜ Bounded (now (ws .entry)) (Apart (now (from .entry)) (now (to .entry)) (now (firsts .entry)) (now (seconds .entry))) s r ⌝ }
+    requires { ⌜ (Made (now ws) (cutOf s)) × (s .weight + allowance < most-weight) ⌝ }
+    ensures { λ r. ⌜ Bounded (now (ws .entry)) (Apart (now (from .entry)) (now (to .entry)) (now (firsts .entry)) (now (seconds .entry))) (cutOf s) r ⌝ }
 {
     let whole = unspent(ws, s);
     let mut left = whole.left;

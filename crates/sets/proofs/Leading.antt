@@ -1,6 +1,6 @@
 -- The lowest number that is in one set and not in another: word by word, from the lowest word.
 -- Assumes nothing.
-use mathlib.Core.Bool.{Bool, true, false, true≢false}
+use mathlib.Core.Bool.{true, false, true≢false}
 use mathlib.Core.List.{List}
 use mathlib.Core.Path.{_≡_, refl, sym, ap, _∙_}
 use Prim.Native.Nat.{ℕ, _+_, _*_, _/_, _%_, _^_, _<_, _≤_}
@@ -11,7 +11,7 @@ use lib.ListN.{length, getD, List·getD-eq-default}
 use Rattle.flags.specs.Flag.{flag, put, less, lowest}
 use Rattle.flags.proofs.Digit.{unset, flag-zero}
 use Rattle.flags.proofs.Least.{lowest-set, lowest-first, lowest-lt}
-use Rattle.flags.proofs.Pair.{less-in, less-l, less-out}
+use Rattle.flags.proofs.Pair.{less-l, less-new, less-gone}
 use Rattle.flags.proofs.Put.{put-count}
 use Rattle.sets.specs.Whole.{words, Small, whole, most, Lowest, Leads}
 use Rattle.sets.proofs.Words.{whole-flag, whole-at}
@@ -19,20 +19,16 @@ use Rattle.sets.proofs.Words.{whole-flag, whole-at}
 -- ---- one word
 
 none-left : (x y j : ℕ) → less x y ≡ 0 → flag x j ≡ true → flag y j ≡ true
-none-left x y j z h = by (flag y j) refl
-  where
-    by : (b : Bool) → flag y j ≡ b → flag y j ≡ true
-    by true p = p
-    by false p = absurd (true≢false (sym (less-in x y j h p) ∙ ap (λ (w : ℕ). flag w j) z ∙ flag-zero j))
+none-left x y j z h = less-gone x y j (ap (λ (w : ℕ). flag w j) z ∙ flag-zero j) h
 
 below-lowest : (x y j : ℕ) → less x y < 2 ^ 64 → (less x y ≡ 0 → ⊥) → j < lowest (less x y) → flag x j ≡ true → flag y j ≡ true
-below-lowest x y j fit z l h = by (flag y j) refl
-  where
-    by : (b : Bool) → flag y j ≡ b → flag y j ≡ true
-    by true p = p
-    by false p = absurd (true≢false (sym (less-in x y j h p) ∙ lowest-first (less x y) j fit z l))
+below-lowest x y j fit z l h = less-gone x y j (lowest-first (less x y) j fit z l) h
 
 -- ---- all words
+
+-- a set has no number from 512 on
+pub beyond : (a : List ℕ) (k : ℕ) → Small a → length a ≡ words → most ≤ k → flag (whole a) k ≡ false
+beyond a k sa len h = whole-at a k sa ∙ ap (λ (w : ℕ). flag w (k % 64)) (List·getD-eq-default a 0 {n = k / 64} (omega (arith, h, len))) ∙ flag-zero (k % 64)
 
 module _ (a b : List ℕ) (sa : Small a) (sb : Small b) where
   -- nothing of the first i words of a is left
@@ -58,7 +54,7 @@ module _ (a b : List ℕ) (sa : Small a) (sb : Small b) where
       by : (k : ℕ) → flag (whole a) k ≡ true → Dec (k / 64 < words) → flag (whole b) k ≡ true
       by k h (yes l) = spent-word k (s (k / 64) l) h
       by k h (no l) =
-          absurd (true≢false (sym (sym (whole-at a k sa) ∙ h) ∙ ap (λ (w : ℕ). flag w (k % 64)) (List·getD-eq-default a 0 {n = k / 64} (omega (arith, l, len))) ∙ flag-zero (k % 64)))
+          absurd (true≢false (sym h ∙ beyond a k sa len (omega (arith, l))))
 
   module _ (i : ℕ) (fit : less (getD a i 0) (getD b i 0) < 2 ^ 64) (some : less (getD a i 0) (getD b i 0) ≡ 0 → ⊥) where
     abbrev x : ℕ
@@ -86,7 +82,7 @@ module _ (a b : List ℕ) (sa : Small a) (sb : Small b) where
         among = whole-flag a i t sa low ∙ less-l x y t left
 
         new : flag (whole b) (i * 64 + t) ≡ false
-        new = whole-flag b i t sb low ∙ unset (λ p. true≢false (sym left ∙ less-out x y t p))
+        new = whole-flag b i t sb low ∙ less-new x y t left
 
         first : (j : ℕ) → j < i * 64 + t → flag (whole a) j ≡ true → flag (whole b) j ≡ true
         first j l f = by (decLt (j / 64) i)

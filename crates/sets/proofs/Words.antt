@@ -1,4 +1,4 @@
--- The words of a set, over any number of words: its flags, its count, a number put in, and two sets word by word.
+-- The words of a set, over any number of words: its flags, its count, a number put in or taken out, and two sets word by word.
 -- Assumes nothing.
 use mathlib.Core.List.{List, [], _∷_}
 use mathlib.Core.Path.{_≡_, refl, sym, ap, ap₂, _∙_, subst}
@@ -15,8 +15,9 @@ use lib.Pow.{pow-pos, pow-lt, pow-add, high, low, field, mod-mod-pow, shr-shr}
 use lib.Seq.{getD-set-same, getD-set-other}
 use Rattle.flags.specs.Flag.{digit, flag, put, either, both, less}
 use Rattle.flags.proofs.Digit.{flag-zero}
+use Rattle.flags.proofs.Pair.{less-zero}
 use Rattle.flags.proofs.Put.{put-lt}
-use Rattle.sets.specs.Whole.{words, Small, whole, counted, most}
+use Rattle.sets.specs.Whole.{Small, whole, counted}
 
 -- ---- the digits of a long word: those of its lowest word, then those of the rest
 
@@ -79,7 +80,7 @@ counted-le : (ws : List ℕ) (n : ℕ) → Small ws → counted ws n ≤ n * 64
 counted-le ws zero s = omega arith
 counted-le ws (suc n) s = omega (arith, counted-le ws n s, ones-le 64 (getD ws n 0) (s n))
 
-pub ones-most : (ws : List ℕ) (n : ℕ) → length ws ≡ n → Small ws → ones (whole ws) ≤ n * 64
+ones-most : (ws : List ℕ) (n : ℕ) → length ws ≡ n → Small ws → ones (whole ws) ≤ n * 64
 ones-most ws n e s = omega (arith, whole-ones ws s, counted-le ws (length ws) s, e)
 
 -- ---- a number put in
@@ -98,7 +99,7 @@ put-high a w k h =
     add-zero (1 * 2 ^ k * 2 ^ 64) ∙ ap (λ (x : ℕ). x * 2 ^ 64) (one-mul (2 ^ k)) ∙ mul-comm (2 ^ k) (2 ^ 64) ∙ sym (pow-add 2 64 k) ∙ sym (one-mul (2 ^ (64 + k))) in
     sym (ap (bitOr (a * 2 ^ 64 + w)) (sym e) ∙ or-block 64 a (1 * 2 ^ k) w 0 h (pow-pos 64) ∙ ap (λ (x : ℕ). bitOr a (1 * 2 ^ k) * 2 ^ 64 + x) (or-zero-r w))
 
-pub whole-put : (ws : List ℕ) (i j : ℕ) → Small ws → i < length ws → j < 64 → whole (set ws i (put (getD ws i 0) j)) ≡ put (whole ws) (i * 64 + j)
+whole-put : (ws : List ℕ) (i j : ℕ) → Small ws → i < length ws → j < 64 → whole (set ws i (put (getD ws i 0) j)) ≡ put (whole ws) (i * 64 + j)
 unfolding whole
 whole-put [] i j s h l = absurd (omega (arith, h))
 whole-put (w ∷ ws) zero j s h l =
@@ -108,23 +109,54 @@ whole-put (w ∷ ws) (suc i) j s h l =
     let e : 64 + (i * 64 + j) ≡ suc i * 64 + j = omega arith in
     ap (λ (x : ℕ). x * 2 ^ 64 + w) (whole-put ws i j (λ k. s (suc k)) (omega (arith, h)) l) ∙ put-high (whole ws) w (i * 64 + j) (s 0) ∙ ap (put (whole ws * 2 ^ 64 + w)) e
 
-pub small-put : (ws : List ℕ) (i j : ℕ) → Small ws → i < length ws → j < 64 → Small (set ws i (put (getD ws i 0) j))
+small-put : (ws : List ℕ) (i j : ℕ) → Small ws → i < length ws → j < 64 → Small (set ws i (put (getD ws i 0) j))
 small-put ws i j s h l k = go (ℕ-discrete k i)
   where
     go : Dec (k ≡ i) → getD (set ws i (put (getD ws i 0) j)) k 0 < 2 ^ 64
     go (yes p) = rw (p, getD-set-same ws i (put (getD ws i 0) j) 0 h) (put-lt (getD ws i 0) j (s i) l)
     go (no n) = rw (getD-set-other ws i k (put (getD ws i 0) j) 0 n) (s k)
 
--- the same by the number itself: k is put in word k / 64, and a set has room for it
-pub put-whole : (ws : List ℕ) (k : ℕ) → length ws ≡ words → Small ws → k < most
-    → (whole (set ws (k / 64) (put (getD ws (k / 64) 0) (k % 64))) ≡ put (whole ws) k) × (ones (whole (set ws (k / 64) (put (getD ws (k / 64) 0) (k % 64)))) ≤ most)
-put-whole ws k len s h =
+-- the same by the number itself: k is put in word k / 64, and n words have room for it
+pub put-whole : (n : ℕ) (ws : List ℕ) (k : ℕ) → length ws ≡ n → Small ws → k < n * 64
+    → (whole (set ws (k / 64) (put (getD ws (k / 64) 0) (k % 64))) ≡ put (whole ws) k) × (ones (whole (set ws (k / 64) (put (getD ws (k / 64) 0) (k % 64)))) ≤ n * 64)
+put-whole n ws k len s h =
     let i = k / 64 in
     let j = k % 64 in
     let at : i < length ws = omega (arith, len, h) in
     let low′ : j < 64 = omega arith in
     let is : i * 64 + j ≡ k = omega arith in
-    (whole-put ws i j s at low′ ∙ ap (put (whole ws)) is, ones-most (set ws i (put (getD ws i 0) j)) words (length-set ws i (put (getD ws i 0) j) ∙ len) (small-put ws i j s at low′))
+    (whole-put ws i j s at low′ ∙ ap (put (whole ws)) is, ones-most (set ws i (put (getD ws i 0) j)) n (length-set ws i (put (getD ws i 0) j) ∙ len) (small-put ws i j s at low′))
+
+-- ---- a number taken out
+
+pub less-block : (a b r s : ℕ) → r < 2 ^ 64 → s < 2 ^ 64 → less (a * 2 ^ 64 + r) (b * 2 ^ 64 + s) ≡ less a b * 2 ^ 64 + less r s
+unfolding less
+less-block a b r s p q = ap (bitXor (a * 2 ^ 64 + r)) (and-block 64 a b r s p q) ∙ xor-block 64 a (bitAnd a b) r (bitAnd r s) p (and-lt 64 r s p q)
+
+-- one number alone
+one-low : (j : ℕ) → j < 64 → put 0 j ≡ 0 * 2 ^ 64 + put 0 j
+one-low j l = omega arith
+
+one-high : (k : ℕ) → put 0 (64 + k) ≡ put 0 k * 2 ^ 64 + 0
+one-high k = let z : 0 ≡ 0 * 2 ^ 64 + 0 = omega arith in ap (λ (x : ℕ). put x (64 + k)) z ∙ sym (put-high 0 0 k (pow-pos 64))
+
+whole-out : (ws : List ℕ) (i j : ℕ) → Small ws → i < length ws → j < 64 → whole (set ws i (less (getD ws i 0) (put 0 j))) ≡ less (whole ws) (put 0 (i * 64 + j))
+unfolding whole
+whole-out [] i j s h l = absurd (omega (arith, h))
+whole-out (w ∷ ws) zero j s h l =
+    let e : j ≡ 0 * 64 + j = omega arith in
+    ap (λ (x : ℕ). x * 2 ^ 64 + less w (put 0 j)) (sym (less-zero (whole ws)))
+    ∙ sym (ap (less (whole ws * 2 ^ 64 + w)) (one-low j l) ∙ less-block (whole ws) 0 w (put 0 j) (s 0) (put-lt 0 j (pow-pos 64) l)) ∙ ap (λ (x : ℕ). less (whole ws * 2 ^ 64 + w) (put 0 x)) e
+whole-out (w ∷ ws) (suc i) j s h l =
+    let e : 64 + (i * 64 + j) ≡ suc i * 64 + j = omega arith in
+    ap₂ (λ (x y : ℕ). x * 2 ^ 64 + y) (whole-out ws i j (λ k. s (suc k)) (omega (arith, h)) l) (sym (less-zero w))
+    ∙ sym (ap (less (whole ws * 2 ^ 64 + w)) (one-high (i * 64 + j)) ∙ less-block (whole ws) (put 0 (i * 64 + j)) w 0 (s 0) (pow-pos 64)) ∙ ap (λ (x : ℕ). less (whole ws * 2 ^ 64 + w) (put 0 x)) e
+
+-- the same by the number itself
+pub out-whole : (n : ℕ) (ws : List ℕ) (k : ℕ) → length ws ≡ n → Small ws → k < n * 64 → whole (set ws (k / 64) (less (getD ws (k / 64) 0) (put 0 (k % 64)))) ≡ less (whole ws) (put 0 k)
+out-whole n ws k len s h =
+    let is : k / 64 * 64 + k % 64 ≡ k = omega arith in
+    whole-out ws (k / 64) (k % 64) s (omega (arith, len, h)) (omega arith) ∙ ap (λ (x : ℕ). less (whole ws) (put 0 x)) is
 
 -- ---- two sets, word by word: what is done to the words is done to the sets
 
@@ -165,10 +197,6 @@ either-block a b r s p q = or-block 64 a b r s p q
 pub both-block : (a b r s : ℕ) → r < 2 ^ 64 → s < 2 ^ 64 → both (a * 2 ^ 64 + r) (b * 2 ^ 64 + s) ≡ both a b * 2 ^ 64 + both r s
 unfolding both
 both-block a b r s p q = and-block 64 a b r s p q
-
-pub less-block : (a b r s : ℕ) → r < 2 ^ 64 → s < 2 ^ 64 → less (a * 2 ^ 64 + r) (b * 2 ^ 64 + s) ≡ less a b * 2 ^ 64 + less r s
-unfolding less
-less-block a b r s p q = ap (bitXor (a * 2 ^ 64 + r)) (and-block 64 a b r s p q) ∙ xor-block 64 a (bitAnd a b) r (bitAnd r s) p (and-lt 64 r s p q)
 
 pub either-none : either 0 0 ≡ 0
 unfolding either

@@ -3,7 +3,7 @@
 use mathlib.Core.Bool.{true, false}
 use mathlib.Core.List.{List, [], _∷_, map}
 use mathlib.Core.Path.{_≡_}
-use Prim.Native.Nat.{ℕ, zero, suc, _+_, _*_, _^_, _<_}
+use Prim.Native.Nat.{ℕ, zero, suc, _+_, _*_, _^_, _<_, _≤_}
 use lib.Count.{ones}
 use lib.ListN.{getD}
 use Rattle.flags.specs.Flag.{flag}
@@ -45,3 +45,9 @@ pub record Lowest (a b k : ℕ) : Type 0 where
 pub record Leads (a b k : ℕ) : Type 0 where
   pub one : (k ≡ most → ⊥) → Lowest a b k
   pub none : k ≡ most → (j : ℕ) → flag a j ≡ true → flag b j ≡ true
+
+-- k is the lowest from `from` on that is in a and not in b; where there is none it is as many as a set can have
+pub record Ahead (a b from k : ℕ) : Type 0 where
+  pub passed : (j : ℕ) → from ≤ j → j < k → flag a j ≡ true → flag b j ≡ true
+  pub one : (k ≡ most → ⊥) → (from ≤ k) × (k < most) × (flag a k ≡ true) × (flag b k ≡ false)
+  pub none : k ≡ most → (j : ℕ) → from ≤ j → flag a j ≡ true → flag b j ≡ true

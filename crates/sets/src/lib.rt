@@ -1,15 +1,20 @@
 // A set of numbers below 512, as several words: number k is in it where flag k % 64 of word k / 64 is set.
+pub mod wide;
+
 ghost use mathlib.Core.Path.{_≡_};
 ghost use Prim.Native.Nat.{_<_, _≤_};
 ghost use lib.Count.{ones};
 ghost use lib.ListN.{length};
 ghost use Rattle.flags.specs.Flag.{flag, put, either, both, less};
-ghost use Rattle.sets.specs.Whole.{words, whole, Small, most, Leads};
+ghost use Rattle.sets.specs.Whole.{words, whole, Small, most, Leads, Ahead};
 
 // How many words a set has.
 pub const WORDS: usize = 8;
 
 pub type Set = [u64; WORDS];
+
+// How many numbers a set can have.
+const MOST: usize = WORDS * 64;
 
 // The set that has no number.
 pub fn none() -> Set
@@ -39,6 +44,15 @@ pub fn put_in<'a>(s: &'a mut Set, k: usize)
 {
     fit(*s);
     s[k / 64] = flags::with(s[k / 64], k % 64);
+}
+
+// Takes k out of the set s.
+pub fn take_out<'a>(s: &'a mut Set, k: usize)
+    requires { ⌜ k < most ⌝ }
+    ensures { λ r. ⌜ whole (now (s .exit)) ≡ less (whole (now (s .entry))) (put 0 k) ⌝ }
+{
+    fit(*s);
+    s[k / 64] = flags::without(s[k / 64], flags::with(0, k % 64));
 }
 
 // The set s with k put in.
@@ -105,5 +119,22 @@ pub fn lowest(a: Set, b: Set) -> usize
             return i * 64 + flags::lowest(left);
         }
     }
-    WORDS * 64
+    MOST
+}
+
+// The lowest number from `from` on that is in a and not in b; where there is none, how many a set can have.
+pub fn lowest_from<'a>(a: &'a Set, b: &'a Set, from: usize) -> usize
+    ensures { λ r. ⌜ Ahead (whole (now (a .entry))) (whole (now (b .entry))) from r ⌝ }
+{
+    fit(*a);
+    fit(*b);
+    let mut k = from;
+    while k < MOST {
+        let left = flags::above(flags::without(a[k / 64], b[k / 64]), k % 64);
+        if left != 0 {
+            return k + flags::lowest(left);
+        }
+        k += 64 - k % 64;
+    }
+    MOST
 }

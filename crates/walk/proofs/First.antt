@@ -1,10 +1,10 @@
 -- First: the search at the first node tells whether an order is held, and where it is not its first list is the route to show.
 -- Assumes nothing.
+use mathlib.Core.Bool.{Bool, true}
 use mathlib.Core.List.{List, [], _∷_, _++_}
 use mathlib.Core.Logic.{_⊎_, inl, inr, ⊎-elim}
-use mathlib.Core.Path.{refl, subst, subst⁻¹}
-use Prim.Native.Nat.{ℕ, _<_, _≤_}
-use native.Mathlib.Omega.{arith}
+use mathlib.Core.Path.{_≡_, refl, subst, subst⁻¹}
+use Prim.Native.Nat.{ℕ, _<_}
 use lib.ListN.{length, getD, take}
 use Rattle.flags.specs.Flag.{put}
 use Rattle.graph.specs.declared.Rule.{Rule}
@@ -12,11 +12,9 @@ use Rattle.graph.specs.Ask.{along, AskedWithout, is-held, is-open}
 use Rattle.graph.specs.Cut.{First}
 use Rattle.graph.specs.Graph.{Graph}
 use Rattle.graph.specs.Held.{Follows, Ordered, by-rule, by-way, Orders, Route, Step, Within}
-use Rattle.graph.specs.Limits.{most-nodes}
 use Rattle.graph.proofs.Walked.{apart-cons, apart-uncons, apart-nil, each-split}
-use Rattle.walk.specs.declared.Way.{Way}
 use Rattle.hope.specs.Rest.{Next}
-use Rattle.walk.specs.Search.{Answer, none, found, Earliest}
+use Rattle.walk.specs.Search.{Answer, Earliest}
 use Rattle.words.specs.Words.{WordsOf}
 use Rattle.walk.proofs.Carried.{Lists, carried-start}
 use Rattle.walk.proofs.Completeness.{found-or-ordered}
@@ -92,12 +90,8 @@ module _ {g : Graph} {rules : List Rule} {c : List ℕ} (succ fits : List ℕ) (
                     (⊎-elim (λ h. absurd (u h)) (λ h. first .least (other ++ b ∷ []) h) (routed other r)),
               )
 
-  pub asked : (r : Way) → Answer Found (a ∷ []) r → AskedWithout g rules c a b (take (r .len) (r .nodes))
-  asked r (none z nothing) =
-      subst⁻¹ (λ (k : ℕ). AskedWithout g rules c a b (take k (r .nodes))) z
-      (is-held (λ between ro. ⊎-elim (λ o. o) (λ t. absurd (nothing (between ++ b ∷ []) t)) (routed between ro)))
-  asked r (found p m e first) = subst⁻¹ (AskedWithout g rules c a b) e (shown first)
+  pub none-asked : ((l : List ℕ) → Found l → ⊥) → AskedWithout g rules c a b []
+  none-asked nothing = is-held (λ between ro. ⊎-elim (λ o. o) (λ t. absurd (nothing (between ++ b ∷ []) t)) (routed between ro))
 
-pub short : {C : List ℕ → Type 0} {pre : List ℕ} {r : Way} → Answer C pre r → r .len ≤ most-nodes
-short (none z nothing) = omega arith
-short (found p m e first) = m
+  pub one-asked : {way : Bool} {len : ℕ} {nodes : List ℕ} → way ≡ true → Answer Found (a ∷ []) way len nodes → AskedWithout g rules c a b (take len nodes)
+  one-asked e r = let f = r .found e in subst⁻¹ (AskedWithout g rules c a b) (f .2) (shown (f .3))

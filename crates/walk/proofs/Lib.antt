@@ -1,5 +1,6 @@
 -- The mathematics of the walk: the search, step by step; the search and the routes of a graph.
 
+pub mod Lent
 pub mod Visited
 pub mod Tried
 pub mod Carried

@@ -1,6 +1,6 @@
 -- What visiting a node says of its answer: one law for each way out of `visit`.
 -- Assumes nothing.
-use mathlib.Core.Bool.{true, false, true≢false}
+use mathlib.Core.Bool.{Bool, true, false, true≢false}
 use mathlib.Core.List.{List, [], _∷_, _++_, append-assoc}
 use mathlib.Core.Logic.{inr}
 use mathlib.Core.Path.{_≡_, refl, sym, ap, _∙_}
@@ -12,9 +12,8 @@ use lib.Seq.{take-suc-set}
 use Rattle.flags.specs.Flag.{flag, put}
 use Rattle.flags.proofs.Put.{put-count}
 use Rattle.graph.specs.Cut.{First}
-use Rattle.walk.specs.declared.Way.{Way}
 use Rattle.hope.specs.Rest.{Rest, ends, goes, Next, mark}
-use Rattle.walk.specs.Search.{Answer, none, found, Earliest}
+use Rattle.walk.specs.Search.{Answer, Earliest}
 
 -- one node more at the end of the route
 pub longer : (nodes : List ℕ) (n m v : ℕ) → n ≡ m → m < length nodes → take (n + 1) (set nodes n v) ≡ take m nodes ++ v ∷ []
@@ -32,35 +31,37 @@ module _ (succ fits : List ℕ) (goal : ℕ) where
       only s (ends f g h) = inr (refl, tt)
       only s (goes f g h k) = absurd (g p)
 
-  go-on : {visited after v : ℕ} (pre : List ℕ) (r : Way)
+  -- what goes on from v goes on from the route with v on it
+  go-on : {visited after v : ℕ} (pre : List ℕ) {way : Bool} {len : ℕ} {nodes : List ℕ}
       → flag visited v ≡ false
       → (v ≡ goal → ⊥)
-      → Answer (Next succ fits goal (put visited v) (mark fits after v) v) (pre ++ v ∷ []) r
-      → Answer (Rest succ fits goal visited after v) pre r
-  go-on {visited} {after} {v} pre r f n (none z no-next) = none z no-rest
+      → Answer (Next succ fits goal (put visited v) (mark fits after v) v) (pre ++ v ∷ []) way len nodes
+      → Answer (Rest succ fits goal visited after v) pre way len nodes
+  go-on {visited} {after} {v} pre {way} f n a = record {
+    none = λ z. no-rest (a .none z);
+    found = λ z. let r = a .found z in (v ∷ r .0, r .1, r .2 ∙ append-assoc pre (v ∷ []) (r .0), record { one = goes f n (r .3 .one .1) (r .3 .one .2); least = least (r .0) (r .3) });
+  }
     where
-      no-rest : (l : List ℕ) → Rest succ fits goal visited after v l → ⊥
-      no-rest l (ends f g h) = n g
-      no-rest l (goes {k = k} {l = l'} f g h t) = no-next l' (k, h, t)
-  go-on {visited} {after} {v} pre r f n (found {l = l} p m e first) =
-      found p m (e ∙ append-assoc pre (v ∷ []) l) (record { one = goes f n (first .one .1) (first .one .2); least = least })
-    where
-      least : (s : List ℕ) → Rest succ fits goal visited after v s → First (v ∷ l) s
-      least s (ends f g h) = absurd (n g)
-      least s (goes {k = k} {l = l'} f g h t) = inr (refl, first .least l' (k, h, t))
+      no-rest : ((l : List ℕ) → Next succ fits goal (put visited v) (mark fits after v) v l → ⊥) → (l : List ℕ) → Rest succ fits goal visited after v l → ⊥
+      no-rest no-next l (ends f g h) = n g
+      no-rest no-next l (goes {k = k} {l = l'} f g h t) = no-next l' (k, h, t)
+
+      least : (l : List ℕ) → Earliest (Next succ fits goal (put visited v) (mark fits after v) v) l → (s : List ℕ) → Rest succ fits goal visited after v s → First (v ∷ l) s
+      least l first s (ends f g h) = absurd (n g)
+      least l first s (goes {k = k} {l = l'} f g h t) = inr (refl, first .least l' (k, h, t))
 
   -- the same in the code's terms: the sets that it passes on are those
-  pub passed-on : {visited after v vis aft n : ℕ} (nodes : List ℕ) (r : Way)
+  pub passed-on : {visited after v vis aft n len : ℕ} (nodes : List ℕ) {way : Bool} {nodes′ : List ℕ}
       → flag visited v ≡ false
       → (v ≡ goal → ⊥)
       → vis ≡ put visited v
       → aft ≡ mark fits after v
       → n ≡ ones visited
       → ones visited < length nodes
-      → Answer (Next succ fits goal vis aft v) (take (ones vis) (set nodes n v)) r
-      → Answer (Rest succ fits goal visited after v) (take (ones visited) nodes) r
-  passed-on {visited} {after} {v} {vis} {aft} {n} nodes r f g e₁ e₂ e₃ h a =
+      → Answer (Next succ fits goal vis aft v) (take (ones vis) (set nodes n v)) way len nodes′
+      → Answer (Rest succ fits goal visited after v) (take (ones visited) nodes) way len nodes′
+  passed-on {visited} {after} {v} {vis} {aft} {n} nodes f g e₁ e₂ e₃ h a =
       let room : take (ones vis) (set nodes n v) ≡ take (ones visited) nodes ++ v ∷ [] =
       ap (λ (x : ℕ). take x (set nodes n v)) (ap ones e₁ ∙ put-count visited v f ∙ ap (λ (x : ℕ). x + 1) (sym e₃))
       ∙ longer nodes n (ones visited) v e₃ h in
-      go-on (take (ones visited) nodes) r f g (rw (room, e₁, e₂) at a)
+      go-on (take (ones visited) nodes) f g (rw (room, e₁, e₂) at a)

@@ -3,14 +3,15 @@ use graph::Graph;
 use hope::hopeful;
 use hope::hopeless;
 use hope::into_set;
-use hope::marked;
+use hope::mark_on;
 use hope::pairs::lost;
 use sets::Set;
 use sets::has;
-use sets::lowest;
+use sets::lowest_from;
 use sets::none;
 use sets::put_in;
 use sets::size;
+use sets::take_out;
 use sets::with;
 use words::Sets;
 use words::fits_of;
@@ -28,7 +29,7 @@ ghost use Rattle.walk.specs.Asked.{AskedOf};
 ghost use Rattle.sets.specs.Whole.{whole, rows};
 ghost use Rattle.hope.specs.Rest.{Rest, Next};
 ghost use Rattle.hope.specs.Hope.{Into};
-ghost use Rattle.walk.specs.Search.{Answer};
+ghost use Rattle.walk.specs.Search.{Answer, Back};
 
 // A route: the first len entries of nodes. Where there is none len is 0.
 pub struct Way {
@@ -36,84 +37,93 @@ pub struct Way {
     pub nodes: [u16; Graph::NODES],
 }
 
-// Visiting v, which is not on the route so far: that one's nodes are `visited`, and they stand at the start of `nodes`. The first way on.
-fn visit<'a>(
+// Visiting v, which is not on the route so far: that one's nodes are `visited`, and they stand at the start of `nodes`. Whether there is a way
+// on: then the route with the first one stands in `nodes`, and its nodes are `visited`. Where there is none the route so far and the sets that
+// grow along it, `visited` and `after`, are as they were.
+fn visit<'a, 'b, 'c, 'd, 'e>(
     succ: &'a Sets,
     fits: &'a Sets,
     goal: usize,
-    into: Set,
-    visited: Set,
-    after: Set,
-    nodes: [u16; Graph::NODES],
-    lent: &'a mut Sets,
+    into: &'a Set,
+    visited: &'b mut Set,
+    after: &'c mut Set,
+    nodes: &'d mut [u16; Graph::NODES],
+    lent: &'e mut Sets,
     doubt: bool,
     v: usize,
-) -> Way
-    requires { ⌜ (v < most-nodes) × (goal < most-nodes) × (flag (whole visited) v ≡ false) × Into (rows (now fits)) goal (whole into) ⌝ }
-    ensures { λ r. ⌜ Answer (Rest (rows (now (succ .entry))) (rows (now (fits .entry))) goal (whole visited) (whole after) v) (take (ones (whole visited)) nodes) r ⌝ }
+) -> bool
+    requires { ⌜ (v < most-nodes) × (goal < most-nodes) × (flag (whole (now visited)) v ≡ false) × Into (rows (now fits)) goal (whole (now into)) ⌝ }
+    requires { ⌜ length (now nodes) ≡ most-nodes ⌝ }
+    ensures { λ r. ⌜ Answer (Rest (rows (now (succ .entry))) (rows (now (fits .entry))) goal (whole (now (visited .entry))) (whole (now (after .entry))) v) (take (ones (whole (now (visited .entry)))) (now (nodes .entry))) r (ones (whole (now (visited .exit)))) (now (nodes .exit)) ⌝ }
+    ensures { λ r. ⌜ Back (ones (whole (now (visited .entry)))) r (whole (now (visited .entry))) (whole (now (visited .exit))) (whole (now (after .entry))) (whole (now (after .exit))) (now (nodes .entry)) (now (nodes .exit)) ⌝ }
 {
-    let n = size(visited);
-    let on_route = with(visited, v);
-    let mut longer = nodes;
-    longer[n] = v as u16;
+    put_in(visited, v);
+    let n = size(*visited);
+    nodes[n - 1] = v as u16;
     if v == goal {
-        if has(&after, v) {
-            return Way { len: 0, nodes };
+        if !has(after, v) {
+            return true;
         }
-        return Way {
-            len: n + 1,
-            nodes: longer,
-        };
+        take_out(visited, v);
+        return false;
     }
-    trial(
+    let before = *after;
+    mark_on(fits, after, v);
+    if trial(
         succ,
         fits,
         goal,
         into,
-        on_route,
-        marked(fits, after, v),
-        longer,
+        visited,
+        after,
+        nodes,
         lent,
         doubt,
         v,
-    )
+    ) {
+        return true;
+    }
+    take_out(visited, v);
+    *after = before;
+    false
 }
 
-// The trial of the edges of v, the last node on the route so far: each in turn, that to the lowest node first. The first way on. With doubt,
-// once some way has failed, the walk looks ahead before it goes on.
-fn trial<'a>(
+// The trial of the edges of v, the last node on the route so far: each in turn, that to the lowest node first. Its answer is as that of `visit`.
+// With doubt, once some way has failed, the walk looks ahead before it goes on.
+fn trial<'a, 'b, 'c, 'd, 'e>(
     succ: &'a Sets,
     fits: &'a Sets,
     goal: usize,
-    into: Set,
-    visited: Set,
-    after: Set,
-    nodes: [u16; Graph::NODES],
-    lent: &'a mut Sets,
+    into: &'a Set,
+    visited: &'b mut Set,
+    after: &'c mut Set,
+    nodes: &'d mut [u16; Graph::NODES],
+    lent: &'e mut Sets,
     doubt: bool,
     v: usize,
-) -> Way
-    requires { ⌜ (v < most-nodes) × (goal < most-nodes) × Into (rows (now fits)) goal (whole into) ⌝ }
-    ensures { λ r. ⌜ Answer (Next (rows (now (succ .entry))) (rows (now (fits .entry))) goal (whole visited) (whole after) v) (take (ones (whole visited)) nodes) r ⌝ }
+) -> bool
+    requires { ⌜ (v < most-nodes) × (goal < most-nodes) × Into (rows (now fits)) goal (whole (now into)) ⌝ }
+    requires { ⌜ length (now nodes) ≡ most-nodes ⌝ }
+    ensures { λ r. ⌜ Answer (Next (rows (now (succ .entry))) (rows (now (fits .entry))) goal (whole (now (visited .entry))) (whole (now (after .entry))) v) (take (ones (whole (now (visited .entry)))) (now (nodes .entry))) r (ones (whole (now (visited .exit)))) (now (nodes .exit)) ⌝ }
+    ensures { λ r. ⌜ Back (ones (whole (now (visited .entry)))) r (whole (now (visited .entry))) (whole (now (visited .exit))) (whole (now (after .entry))) (whole (now (after .exit))) (now (nodes .entry)) (now (nodes .exit)) ⌝ }
 {
     if hopeless(succ, fits, goal, into, visited, after, lent, doubt, v) {
-        return Way { len: 0, nodes };
+        return false;
     }
-    let mut tried = visited;
+    let mut from = 0;
     let mut wary = doubt;
     loop {
-        let k = lowest(succ[v], tried);
+        let k = lowest_from(&succ[v], visited, from);
         if k == Graph::NODES {
-            return Way { len: 0, nodes };
+            return false;
         }
-        let way = visit(succ, fits, goal, into, visited, after, nodes, lent, wary, k);
-        if 0 < way.len {
-            return way;
+        if visit(succ, fits, goal, into, visited, after, nodes, lent, wary, k) {
+            return true;
         }
         if lost(succ, fits, goal, into, visited, after, lent, wary, v, k) {
-            return Way { len: 0, nodes };
+            return false;
         }
-        put_in(&mut tried, k);
+        from = k + 1;
         wary = true;
     }
 }
@@ -131,15 +141,30 @@ pub fn open_route<'a>(
     requires { ⌜ (n ≤ most-nodes) × (a < most-nodes) × (b < most-nodes) ⌝ }
     ensures { λ r. ⌜ (r .len ≤ most-nodes) × AskedOf (rows (now (succ .entry))) (rows (now (fits .entry))) a b (take (r .len) (r .nodes)) ⌝ }
 {
-    let after = fits[a];
+    let mut after = fits[a];
     let mut nodes = [0u16; Graph::NODES];
     nodes[0] = a as u16;
     let into = into_set(fits, n, b);
-    let visited = with(none(), a);
-    if !hopeful(succ, fits, b, into, visited, after, lent, a) {
+    let mut visited = with(none(), a);
+    if !hopeful(succ, fits, b, &into, &visited, &after, lent, a) {
         return Way { len: 0, nodes };
     }
-    trial(succ, fits, b, into, visited, after, nodes, lent, false, a)
+    if !trial(
+        succ,
+        fits,
+        b,
+        &into,
+        &mut visited,
+        &mut after,
+        &mut nodes,
+        lent,
+        false,
+        a,
+    ) {
+        return Way { len: 0, nodes };
+    }
+    let len = size(visited);
+    Way { len, nodes }
 }
 
 // For each order whether it is open.

@@ -1,23 +1,22 @@
 -- `hope::branches` is safe: what it finds is a node.
+use native.Mathlib.Omega.{arith}
 use borrow.Author.Needs.{needs}
 use Rattle.hope.proofs.branches.Statement.{statement}
 use Rattle.hope.proofs.branches.Tie as tie
 
-with-requires : tie.Need-with-requires
-with-requires c κs =
-    let e = c .before in
-    e .before .lowest .ensures .one (e .if1 .left) .node
+add-lowest-from : tie.Need-add-lowest-from
+add-lowest-from c = omega (arith, c .before .before .lowest-from .ensures .one (c .before .if1 .left) .1)
 
 pub branches-spec : {M : Type 1} → statement M
 branches-spec =
     tie.close
     (tie.spec
-    (λ c. search needs)  -- mul-lowest
-    (λ c. search needs)  -- element-copy-out-lowest
-    (λ c κs. search needs)  -- lowest-requires
+    (λ c. search needs)  -- mul-lowest-from
+    (λ c. search needs)  -- index-1-lowest-from
+    (λ c κs. search needs)  -- lowest-from-requires
     (λ c. search needs)  -- returns
-    (λ c. search needs)  -- mul-lowest-2
-    (λ c. search needs)  -- element-copy-out-lowest-2
-    with-requires
-    (λ c κs. search needs)  -- lowest-requires-2
+    (λ c. search needs)  -- mul-lowest-from-2
+    (λ c. search needs)  -- index-1-lowest-from-2
+    add-lowest-from
+    (λ c κs. search needs)  -- lowest-from-requires-2
     (λ c. search needs))  -- returns-2

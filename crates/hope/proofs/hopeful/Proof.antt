@@ -16,10 +16,14 @@ use Rattle.hope.proofs.hopeful.Statement.{statement}
 use Rattle.hope.proofs.hopeful.Tie as tie
 
 abbrev Inv-loop : tie.InvT-loop
-Inv-loop succ fits goal into visited least₀ v left₀ met₀ -round₀ least left met -round = (-round ≤ most-nodes * most-nodes) × Kept (rows succ) (rows fits) (whole into) (whole visited) (whole met₀) (rows least₀) (whole met) (rows least) (whole left)
+Inv-loop succ fits goal into visited after least₀ v seen last left₀ met₀ -round₀ least left met -round = (-round ≤ most-nodes * most-nodes) × Kept (rows succ) (rows fits) (whole into) (whole visited) (whole met₀) (rows least₀) (whole met) (rows least) (whole left)
 
 abbrev μ-loop : tie.MeasureT-loop
-μ-loop succ fits goal into visited least₀ v left₀ met₀ -round₀ least left met -round = most-nodes * most-nodes - -round
+μ-loop succ fits goal into visited after least₀ v seen last left₀ met₀ -round₀ least left met -round = most-nodes * most-nodes - -round
+
+-- where it began, seen from where the loop begins
+abbrev start : tie.After-lower Inv-loop μ-loop → tie.Start Inv-loop μ-loop
+start c = c .before .before .before .before .before .before .before .before .before .before .before .before .before
 
 -- the node that is looked at
 low : (c : tie.Else3 Inv-loop μ-loop) → c .before .lowest .result < most-nodes
@@ -27,13 +31,13 @@ low c = c .before .lowest .ensures .one (c .if3 .left) .node
 
 returns : tie.Need-returns Inv-loop μ-loop
 returns c =
-    let s = c .before .before .before in
-    λ e. ordered-already (rows (s .args .succ .now)) (rows (s .args .fits .now)) (s .args .goal) (whole (s .args .into)) (whole (s .args .visited)) (whole (s .args .t6)) (s .pre .2) (s .args .v) (sym (c .before .has .ensures) ∙ c .if1 .taken)
+    let s = c .before .before in
+    λ e. ordered-already (rows (s .args .succ .now)) (rows (s .args .fits .now)) (s .args .goal) (whole (s .args .into .now)) (whole (s .args .visited .now)) (whole (s .args .after .now)) (s .pre .2) (s .args .v) (sym (c .before .has .ensures) ∙ c .if1 .taken)
 
 loop-holds : tie.Need-loop-holds Inv-loop μ-loop
 loop-holds c =
-    let s = c .before .before .before .before .before .before .before .before .before .before in
-    (search needs, kept-start (rows (s .args .succ .now)) (rows (s .args .fits .now)) (whole (s .args .into)) (whole (s .args .visited)) _ _)
+    let s = start c in
+    (search needs, kept-start (rows (s .args .succ .now)) (rows (s .args .fits .now)) (whole (s .args .into .now)) (whole (s .args .visited .now)) _ _)
 
 returns-2 : tie.Need-returns-2 Inv-loop μ-loop
 returns-2 c = λ e. absurd (true≢false e)
@@ -46,14 +50,14 @@ returns-3 c =
     let co = e2 .before in
     let al = co .before .before .before in
     let lw = al .before in
-    let no = lw .before in
+    let no = lw .before .before in
     let wo = no .before .before in
     let ei = wo .before in
     let bo = ei .before in
-    let s = bo .before .before .before .before .before in
-    let start = spread-first (rows (s .args .succ .now)) (rows (s .args .fits .now)) (whole (s .args .into)) (whole (s .args .visited)) (s .args .v) (whole (s .args .t6)) _ _ (no .none .ensures) (sym (row-at (s .args .succ .now) (s .args .v)))
-    (wo .without .ensures ∙ ap (less _) (ei .either .ensures ∙ ap (either (whole (s .args .visited))) (bo .both .ensures))) (lw .lower .ensures) in
-    λ e. kept-all (rows (s .args .succ .now)) (rows (s .args .fits .now)) (whole (s .args .into)) (whole (s .args .visited)) (whole (s .args .t6)) (s .args .v) (s .args .goal) (s .pre .2) _ _ (whole (al .loop .met)) (rows (al .loop .least)) (whole (al .loop .left)) start (al .loop .inv .1)
+    let s = start lw in
+    let begun = spread-first (rows (s .args .succ .now)) (rows (s .args .fits .now)) (whole (s .args .into .now)) (whole (s .args .visited .now)) (s .args .v) (whole (s .args .after .now)) _ _ (no .none .ensures) (sym (row-at (s .args .succ .now) (s .args .v)))
+    (wo .without .ensures ∙ ap (less _) (ei .either .ensures ∙ ap (either (whole (s .args .visited .now))) (bo .both .ensures))) (lw .lower .ensures) in
+    λ e. kept-all (rows (s .args .succ .now)) (rows (s .args .fits .now)) (whole (s .args .into .now)) (whole (s .args .visited .now)) (whole (s .args .after .now)) (s .args .v) (s .args .goal) (s .pre .2) _ _ (whole (al .loop .met)) (rows (al .loop .least)) (whole (al .loop .left)) begun (al .loop .inv .1)
     (all-out _ _ (n2 .none2 .ensures) (lo .lowest .ensures .none (c .if3 .taken))) (co .came-open .ensures (e2 .if2 .left))
 
 mul-marked : tie.Need-mul-marked Inv-loop μ-loop
@@ -89,13 +93,13 @@ loop-again c =
     let x = lo .lowest .result in
     let il = lo .before .before .before .before .before in
     let al = il .before in
-    let s = al .before .before .before .before .before .before .before .before .before .before .before in
+    let s = start (al .before) in
     let l = al .loop in (
       omega (arith, il .loop-test .taken),
-      kept-on (rows (s .args .succ .now)) (rows (s .args .fits .now)) (whole (s .args .into)) (whole (s .args .visited)) _ _ (rows (l .least)) _ (whole (l .met)) (whole (e3 .either3 .result)) (whole (l .left)) x (whole (ma .marked .result)) _ (whole (wo .without2 .result)) (whole (l2 .lower2 .result)) (whole (wi .with .result)) (whole (w3 .without3 .result)) (whole (c .either4 .result))
+      kept-on (rows (s .args .succ .now)) (rows (s .args .fits .now)) (whole (s .args .into .now)) (whole (s .args .visited .now)) _ _ (rows (l .least)) _ (whole (l .met)) (whole (e3 .either3 .result)) (whole (l .left)) x (whole (ma .marked .result)) _ (whole (wo .without2 .result)) (whole (l2 .lower2 .result)) (whole (wi .with .result)) (whole (w3 .without3 .result)) (whole (c .either4 .result))
           (ma .marked .ensures ∙ ap (λ (w : ℕ). mark (rows (s .args .fits .now)) w x) (sym (row-at (l .least) x)))
           (sym (row-at (s .args .succ .now) x))
-          (wo .without2 .ensures ∙ ap (less _) (ei .either2 .ensures ∙ ap (either (whole (s .args .visited))) (bo .both2 .ensures)))
+          (wo .without2 .ensures ∙ ap (less _) (ei .either2 .ensures ∙ ap (either (whole (s .args .visited .now))) (bo .both2 .ensures)))
           (l2 .lower2 .ensures) (e3 .either3 .ensures) (wi .with .ensures .0 ∙ ap (λ (w : ℕ). put w x) (n3 .none3 .ensures)) (w3 .without3 .ensures) (c .either4 .ensures) (l .inv .1),
     )
 

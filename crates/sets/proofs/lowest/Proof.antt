@@ -75,5 +75,4 @@ lowest-spec =
     (λ c. search needs)  -- add-i
     (λ c. search needs)  -- loop-less
     loop-again
-    (λ c. search needs)  -- mul-result-2
     returns-2)

@@ -1,4 +1,5 @@
 -- `sets::put_in` meets its contract: k is put in word k / 64.
+use Rattle.sets.specs.Whole.{words}
 use Rattle.sets.proofs.Words.{put-whole}
 use borrow.Author.Needs.{needs}
 use Rattle.sets.proofs.put_in.Statement.{statement}
@@ -8,7 +9,7 @@ returns : tie.Need-returns
 returns c =
     let f = c .before .before in
     let s = f .before .before in
-    rw (c .with .ensures) (put-whole (s .args .s .now) (s .args .k) (f .fit .ensures .0) (f .fit .ensures .1) (s .pre))
+    rw (c .with .ensures) (put-whole words (s .args .s .now) (s .args .k) (f .fit .ensures .0) (f .fit .ensures .1) (s .pre))
 
 pub put-in-spec : {M : Type 1} → statement M
 put-in-spec =

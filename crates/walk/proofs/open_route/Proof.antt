@@ -1,40 +1,51 @@
 -- `walk::open_route` meets its contract: the walk from the order's first node.
-use mathlib.Core.Path.{_≡_, refl, ap, _∙_}
-use mathlib.Core.List.{[]}
+use mathlib.Core.Path.{_≡_, ap, _∙_}
 use Prim.Native.Nat.{ℕ}
 use native.Mathlib.Omega.{arith}
 use lib.Count.{ones}
-use borrow.Author.Tests.{not-true}
+use borrow.Author.Tests.{not-true, not-false}
 use Rattle.flags.specs.Flag.{put}
 use Rattle.flags.proofs.Put.{put-zero-count}
 use Rattle.sets.specs.Whole.{whole, rows}
 use Rattle.sets.proofs.Rows.{row-at}
-use Rattle.walk.specs.Search.{none}
-use Rattle.walk.proofs.First.{asked, short}
+use Rattle.walk.proofs.First.{none-asked, one-asked}
 use borrow.Author.Needs.{needs}
 use Rattle.walk.proofs.open_route.Statement.{statement}
 use Rattle.walk.proofs.open_route.Tie as tie
 
+abbrev begun : tie.After-hopeful → tie.After-with
+begun c = c .before .before .before .before .before
+
+abbrev start : tie.After-with → tie.Start
+start c = c .before .before .before .before
+
 -- the route starts with its first node alone
-started : (c : tie.After-with) → whole (c .with .result) ≡ put 0 (c .before .before .before .before .args .a)
-started c = c .with .ensures .0 ∙ ap (λ (w : ℕ). put w (c .before .before .before .before .args .a)) (c .before .none .ensures)
+started : (c : tie.After-with) → whole (c .with .result) ≡ put 0 (start c .args .a)
+started c = c .with .ensures .0 ∙ ap (λ (w : ℕ). put w (start c .args .a)) (c .before .none .ensures)
 
 returns : tie.Need-returns
 returns c =
-    let w = c .before .before .before in
-    let s = w .before .before .before .before in (
-      omega arith,
-      λ g rules k words. asked (rows (s .args .succ .now)) (rows (s .args .fits .now)) words (s .args .a) (s .args .b) (record { len = 0; nodes = [] })
-          (none refl (rw (started w, ← (row-at (s .args .fits .now) (s .args .a))) at (c .before .hopeful .ensures (not-true _ (c .if1 .taken))))),
-    )
+    let w = begun (c .before) in
+    let s = start w .args in
+    (omega arith, λ g rules k words. none-asked (rows (s .succ .now)) (rows (s .fits .now)) words (s .a) (s .b) (rw (started w, ← (row-at (s .fits .now) (s .a))) at (c .before .hopeful .ensures (not-true _ (c .if1 .taken)))))
+
+abbrev hoped : tie.After-trial → tie.After-with
+hoped c = begun (c .before .before .before .before .before .before .before)
 
 returns-2 : tie.Need-returns-2
 returns-2 c =
-    let w = c .before .before .before .before .before in
-    let s = w .before .before .before .before in
-    let n : ones (whole (w .with .result)) ≡ 1 = ap ones (started w) ∙ put-zero-count (s .args .a) in (
-      short (c .trial .ensures),
-      λ g rules k words. asked (rows (s .args .succ .now)) (rows (s .args .fits .now)) words (s .args .a) (s .args .b) (c .trial .result) (rw (n, started w, ← (row-at (s .args .fits .now) (s .args .a))) at (c .trial .ensures)),
+    let w = hoped (c .before) in
+    let s = start w .args in
+    (omega arith, λ g rules k words. none-asked (rows (s .succ .now)) (rows (s .fits .now)) words (s .a) (s .b) (rw (started w, ← (row-at (s .fits .now) (s .a))) at (c .before .trial .ensures .0 .none (not-true _ (c .if2 .taken)))))
+
+returns-3 : tie.Need-returns-3
+returns-3 c =
+    let tr = c .before .before in
+    let w = hoped tr in
+    let s = start w .args in
+    let n : ones (whole (w .with .result)) ≡ 1 = ap ones (started w) ∙ put-zero-count (s .a) in (
+      c .size .ensures .1,
+      λ g rules k words. rw (c .size .ensures .0) (one-asked (rows (s .succ .now)) (rows (s .fits .now)) words (s .a) (s .b) (not-false _ (c .before .if2 .left)) (rw (n, started w, ← (row-at (s .fits .now) (s .a))) at (tr .trial .ensures .0))),
     )
 
 pub open-route-spec : {M : Type 1} → statement M
@@ -51,4 +62,6 @@ open-route-spec =
     (λ c κs. search needs)  -- hopeful-requires
     returns
     (λ c κs. search needs)  -- trial-requires
-    returns-2)
+    returns-2
+    (λ c κs. search needs)  -- size-requires
+    returns-3)

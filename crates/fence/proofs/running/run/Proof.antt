@@ -1,5 +1,10 @@
 -- `fence::running::run` meets its contract: the open orders, their chosen cut, then one case for each answer.
+use mathlib.Core.Bool.{Bool}
+use mathlib.Core.List.{List}
+use mathlib.Core.Path.{subst⁻¹}
+use Prim.Native.Nat.{ℕ, _<_}
 use native.Mathlib.Omega.{arith}
+use Rattle.lightest.specs.Sets.{Has}
 use Rattle.fence.proofs.Fenced.{ready-orderly, full-nodes, full-edges, short-buffer, file-written}
 use borrow.Author.Needs.{needs}
 use Rattle.fence.proofs.running.run.Statement.{statement}
@@ -12,6 +17,9 @@ chosen-cut-requires : tie.Need-chosen-cut-requires
 chosen-cut-requires c κs =
     let s = c .before .before in
     ((s .pre .sized, s .pre .proper .sound), (ready-orderly (s .args .g) (s .pre), c .open-orders .ensures))
+
+flags-requires : tie.Need-flags-requires
+flags-requires c κs = search needs
 
 count-requires : tie.Need-count-requires
 count-requires c κs = search needs
@@ -27,7 +35,7 @@ returns c =
     let k = c .before .before .before in
     let cut = k .before .before in
     let s = cut .before .before .before in
-    full-nodes (s .args .g) (s .pre) _ (cut .chosen-cut .ensures) _ (k .count .ensures .0) _ (c .before .if1 .taken) _ (c .refused .ensures)
+    full-nodes (s .args .g) (s .pre) _ (cut .chosen-cut .ensures) _ (k .before .flags .ensures) _ (k .count .ensures .0) _ (c .before .if1 .taken) _ (c .refused .ensures)
 
 add-if2 : tie.Need-add-if2
 add-if2 c = search needs
@@ -41,7 +49,7 @@ returns-2 c =
     let k = t .before .before .before .before in
     let cut = k .before .before in
     let s = cut .before .before .before in
-    full-edges (s .args .g) (s .pre) _ (cut .chosen-cut .ensures) _ (k .count .ensures .0) _ (t .if2 .taken) _ (c .refused2 .ensures)
+    full-edges (s .args .g) (s .pre) _ (cut .chosen-cut .ensures) _ (k .before .flags .ensures) _ (k .count .ensures .0) _ (t .if2 .taken) _ (c .refused2 .ensures)
 
 put-on-requires : tie.Need-put-on-requires
 put-on-requires c κs =
@@ -49,7 +57,7 @@ put-on-requires c κs =
     let k = e .before .before in
     let cut = k .before .before in
     let s = cut .before .before .before in
-    ((s .pre .sized, s .pre .roomy), (cut .chosen-cut .ensures .below, (omega (arith, k .count .ensures .0, e .if1 .left), omega (arith, k .count .ensures .0, c .if2 .left))))
+    ((s .pre .sized, s .pre .roomy), (subst⁻¹ (λ (l : List Bool). (e : ℕ) → Has l e → e < s .args .g .«edge_count») (k .before .flags .ensures) (cut .chosen-cut .ensures .below), (omega (arith, k .count .ensures .0, e .if1 .left), omega (arith, k .count .ensures .0, c .if2 .left))))
 
 size-of-requires : tie.Need-size-of-requires
 size-of-requires c κs = search needs
@@ -66,7 +74,7 @@ returns-3 c =
     let k = e1 .before .before in
     let cut = k .before .before in
     let s = cut .before .before .before in
-    short-buffer (s .args .g) (s .pre) _ (cut .chosen-cut .ensures) _ (k .count .ensures .0) _ (omega (arith, e1 .if1 .left)) (omega (arith, e2 .if2 .left))
+    short-buffer (s .args .g) (s .pre) _ (cut .chosen-cut .ensures) _ (k .before .flags .ensures) _ (k .count .ensures .0) _ (omega (arith, e1 .if1 .left)) (omega (arith, e2 .if2 .left))
     _ (h .put-on .ensures .0) (h .put-on .ensures .1 .0) (omega (arith, t .if3 .taken, t .before .size-of .ensures .0)) _ (c .refused3 .ensures)
 
 write-request-requires : tie.Need-write-request-requires
@@ -88,7 +96,7 @@ returns-4 c =
     let k = e1 .before .before in
     let cut = k .before .before in
     let s = cut .before .before .before in
-    file-written (s .args .g) (s .pre) _ (cut .chosen-cut .ensures) _ (k .count .ensures .0) _ (omega (arith, e1 .if1 .left)) (omega (arith, e2 .if2 .left))
+    file-written (s .args .g) (s .pre) _ (cut .chosen-cut .ensures) _ (k .before .flags .ensures) _ (k .count .ensures .0) _ (omega (arith, e1 .if1 .left)) (omega (arith, e2 .if2 .left))
     _ (h .put-on .ensures .0) (h .put-on .ensures .1 .0) _ _ (w .write-request .ensures .1)
 
 pub run-spec : {M : Type 1} → statement M
@@ -97,6 +105,7 @@ run-spec =
     (tie.spec
     open-orders-requires
     chosen-cut-requires
+    flags-requires
     count-requires
     add-if1
     refused-requires

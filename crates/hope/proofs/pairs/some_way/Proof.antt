@@ -1,19 +1,17 @@
 -- `hope::pairs::some_way` meets its contract: pair by pair, way by way.
 use mathlib.Core.Bool.{true≢false}
-use mathlib.Core.List.{List, []}
+use mathlib.Core.List.{[]}
 use mathlib.Core.Logic.{⊎-elim}
-use mathlib.Core.Path.{_≡_, refl, sym, ap, subst, _∙_}
-use Prim.Native.Nat.{ℕ, _+_, _-_}
+use mathlib.Core.Path.{refl, sym, _∙_}
+use Prim.Native.Nat.{_-_}
 use native.Mathlib.Omega.{arith}
 use lib.Count.{ones}
-use lib.ListN.{getD, set, replicate}
-use lib.Seq.{getD-set-same}
+use lib.ListN.{getD, replicate}
 use borrow.Author.Tests.{not-false}
 use Rattle.graph.specs.Limits.{most-nodes}
 use Rattle.sets.specs.Whole.{whole, rows, Lowest}
 use Rattle.sets.proofs.Rows.{row-at, rows-set, rows-length}
 use Rattle.sets.proofs.Leading.{done-count}
-use Rattle.hope.specs.Rest.{Next}
 use Rattle.hope.specs.Hope.{most-pairs}
 use Rattle.hope.proofs.Sifted.{Sifted, sifted-start, sifted-all, Going, going-end, going-ordered, going-known, going-add}
 use borrow.Author.Needs.{needs}
@@ -21,24 +19,16 @@ use Rattle.hope.proofs.pairs.some_way.Statement.{statement}
 use Rattle.hope.proofs.pairs.some_way.Tie as tie
 
 abbrev Inv-loop2 : tie.InvT-loop2
-Inv-loop2 succ fits goal visited kept₀ v nodes₀ n₀ i next ordered tried₀ kept nodes n tried = Going (rows succ) (rows fits) goal (whole visited) (getD (rows kept₀) 0 0) v nodes (rows kept) n i (whole next) (whole ordered) (whole tried)
+Inv-loop2 succ fits goal visited after kept₀ v nodes₀ seen n₀ i next ordered tried₀ kept nodes n tried = Going (rows succ) (rows fits) goal (whole visited) (whole after) v nodes (rows kept) n i (whole next) (whole ordered) (whole tried)
 
 abbrev μ-loop2 : tie.MeasureT-loop2
-μ-loop2 succ fits goal visited kept₀ v nodes₀ n₀ i next ordered tried₀ kept nodes n tried = most-nodes - ones (whole tried)
+μ-loop2 succ fits goal visited after kept₀ v nodes₀ seen n₀ i next ordered tried₀ kept nodes n tried = most-nodes - ones (whole tried)
 
 abbrev Inv-loop : tie.InvT-loop
-Inv-loop succ fits goal visited kept₀ v nodes₀ n₀ i₀ kept nodes n i = Sifted (rows succ) (rows fits) goal (whole visited) (getD (rows kept₀) 0 0) v nodes (rows kept) n i (whole visited)
+Inv-loop succ fits goal visited after kept₀ v nodes₀ seen n₀ i₀ kept nodes n i = Sifted (rows succ) (rows fits) goal (whole visited) (whole after) v nodes (rows kept) n i (whole visited)
 
 abbrev μ-loop : tie.MeasureT-loop
-μ-loop succ fits goal visited kept₀ v nodes₀ n₀ i₀ kept nodes n i = most-pairs - i
-
--- the set of the first pair
-first : (c : tie.After-sized Inv-loop2 μ-loop2 Inv-loop μ-loop)
-    → getD (rows (set (c .before .before .args .kept .now) 0 (c .before .before .args .after))) 0 0 ≡ whole (c .before .before .args .after)
-first c =
-    let kept = c .before .before .args .kept .now in
-    let after = c .before .before .args .after in
-    ap (λ (l : List ℕ). getD l 0 0) (rows-set kept 0 after) ∙ getD-set-same (rows kept) 0 (whole after) 0 (omega (arith, rows-length kept, c .sized .ensures))
+μ-loop succ fits goal visited after kept₀ v nodes₀ seen n₀ i₀ kept nodes n i = most-pairs - i
 
 module _ (c : tie.Else1 Inv-loop2 μ-loop2 Inv-loop μ-loop) where
   abbrev turn : tie.At-loop2 Inv-loop2 μ-loop2 Inv-loop μ-loop
@@ -48,15 +38,15 @@ module _ (c : tie.Else1 Inv-loop2 μ-loop2 Inv-loop μ-loop) where
   inner = turn .before .before .before
 
   -- the node that a way goes on to
-  low : Lowest (whole (getD (inner .before .before .before .before .args .succ .now) (getD (inner .before .loop .nodes) (inner .before .loop .i) 0) [])) (whole (turn .loop2 .tried)) (c .before .lowest .result)
+  low : Lowest (whole (getD (inner .before .before .before .before .before .before .args .succ .now) (getD (inner .before .loop .nodes) (inner .before .loop .i) 0) [])) (whole (turn .loop2 .tried)) (c .before .lowest .result)
   low = c .before .lowest .ensures .one (c .if1 .left)
 
 loop-holds : tie.Need-loop-holds Inv-loop2 μ-loop2 Inv-loop μ-loop
 loop-holds c =
-    let s = c .before .before in
+    let z = c .before .before in
+    let s = z .before .before in
     let kept = s .args .kept .now in
-    subst (λ (a : ℕ). Sifted (rows (s .args .succ .now)) (rows (s .args .fits .now)) (s .args .goal) (whole (s .args .visited)) a (s .args .v) (set (replicate most-pairs 0) 0 (s .args .v)) (rows (set kept 0 (s .args .after))) 1 0 (whole (s .args .visited))) (sym (first c))
-    (sifted-start (rows (s .args .succ .now)) (rows (s .args .fits .now)) (s .args .goal) (whole (s .args .visited)) (whole (s .args .after)) (s .args .v) _ _ 1 0 (replicate most-pairs 0) (rows kept) refl (rows-length kept ∙ c .sized .ensures) refl (rows-set kept 0 (s .args .after)) refl refl (s .pre .0))
+    sifted-start (rows (s .args .succ .now)) (rows (s .args .fits .now)) (s .args .goal) (whole (s .args .visited .now)) (whole (s .args .after .now)) (s .args .v) _ _ 1 0 (replicate most-pairs 0) (rows kept) refl (rows-length kept ∙ z .sized .ensures) refl (rows-set kept 0 (s .args .after .now)) refl refl (s .pre .0)
 
 array-read-next : tie.Need-array-read-next Inv-loop2 μ-loop2 Inv-loop μ-loop
 array-read-next c = omega (arith, c .loop-test .taken, c .before .loop .inv .few)
@@ -74,12 +64,12 @@ loop2-holds : tie.Need-loop2-holds Inv-loop2 μ-loop2 Inv-loop μ-loop
 loop2-holds c =
     let n = c .before .before in
     let l = n .before .loop in
-    let s = n .before .before .before .before in
+    let s = n .before .before .before .before .before .before in
     record {
       within = n .loop-test .taken;
       onto = sym (row-at (s .args .succ .now) (getD (l .nodes) (l .i) 0));
       ordered = sym (row-at (l .kept) (l .i));
-      sifted = subst (λ (a : ℕ). Sifted (rows (s .args .succ .now)) (rows (s .args .fits .now)) (s .args .goal) (whole (s .args .visited)) a (s .args .v) (l .nodes) (rows (l .kept)) (l .n) (l .i) (whole (s .args .visited))) (sym (l .inv .start .1)) (l .inv);
+      sifted = l .inv;
     }
 
 marked-requires : tie.Need-marked-requires Inv-loop2 μ-loop2 Inv-loop μ-loop
@@ -99,8 +89,8 @@ array-write-nodes-2 c =
     let lo = c .before .before .before .before .before .before .before .before .before .before in
     omega (arith, turn lo .loop2 .inv .sifted .few, c .if5 .left)
 
-element-set-from-kept : tie.Need-element-set-from-kept Inv-loop2 μ-loop2 Inv-loop μ-loop
-element-set-from-kept c =
+element-set-from-kept-2 : tie.Need-element-set-from-kept-2 Inv-loop2 μ-loop2 Inv-loop μ-loop
+element-set-from-kept-2 c =
     let lo = c .before .before .before .before .before .before .before .before .before .before in
     omega (arith, turn lo .loop2 .inv .sifted .few, c .if5 .left)
 
@@ -137,19 +127,10 @@ loop-less c =
     omega (arith, n .loop-test .taken, n .before .loop .inv .few)
 
 loop-again : tie.Need-loop-again Inv-loop2 μ-loop2 Inv-loop μ-loop
-loop-again c =
-    let lo = c .before in
-    let t = lo .before in
-    let n = t .before .before .before in
-    let s = n .before .before .before .before in
-    let e = going-end _ _ _ _ _ _ _ _ _ _ _ _ _ (t .loop2 .inv) (lo .lowest .ensures .none (c .if1 .taken)) in
-    subst (λ (a : ℕ). Sifted (rows (s .args .succ .now)) (rows (s .args .fits .now)) (s .args .goal) (whole (s .args .visited)) a (s .args .v) (t .loop2 .nodes) (rows (t .loop2 .kept)) (t .loop2 .n) (n .before .loop .i + 1) (whole (s .args .visited))) (n .before .loop .inv .start .1) e
+loop-again c = let lo = c .before in going-end _ _ _ _ _ _ _ _ _ _ _ _ _ (lo .before .loop2 .inv) (lo .lowest .ensures .none (c .if1 .taken))
 
 returns-3 : tie.Need-returns-3 Inv-loop2 μ-loop2 Inv-loop μ-loop
-returns-3 c =
-    let l = c .before in
-    let s = l .before .before .before in
-    λ e. subst (λ (a : ℕ). (w : List ℕ) → Next (rows (s .args .succ .now)) (rows (s .args .fits .now)) (s .args .goal) (whole (s .args .visited)) a (s .args .v) w → ⊥) (first (l .before)) (sifted-all _ _ _ _ _ _ _ _ _ _ (l .loop .inv) (omega (arith, c .loop-test .left)))
+returns-3 c = λ e. sifted-all _ _ _ _ _ _ _ _ _ _ (c .before .loop .inv) (omega (arith, c .loop-test .left))
 
 pub some-way-spec : {M : Type 1} → statement M
 some-way-spec =
@@ -161,7 +142,7 @@ some-way-spec =
     μ-loop
     (λ c κs. search needs)  -- sized-requires
     (λ c. search needs)  -- array-write-nodes
-    (λ c. search needs)  -- element-set-from-after
+    (λ c. search needs)  -- element-set-from-kept
     loop-holds
     (λ c. search needs)  -- mul-next
     array-read-next
@@ -178,8 +159,8 @@ some-way-spec =
     returns-2
     (λ c. search needs)  -- mul-nodes
     array-write-nodes-2
-    (λ c. search needs)  -- mul-t43
-    element-set-from-kept
+    (λ c. search needs)  -- mul-t45
+    element-set-from-kept-2
     (λ c. search needs)  -- add-n
     put-in-requires
     loop2-less

@@ -19,12 +19,12 @@ heavier-by-requires : tie.Need-heavier-by-requires
 heavier-by-requires c κs = search needs
 
 returns-3 : tie.Need-returns-3
-returns-3 c = let two = c .before .before .before .before in
+returns-3 c = let two = c .before .before in
     let p = two .before .before .before .before .pre in
     inr (refl, λ e. (not-false _ (two .if2 .left), pos-taken _ _ (p .0) (p .1) _ (c .before .heavier-by .ensures) (c .if3 .taken)))
 
 returns-4 : tie.Need-returns-4
-returns-4 c = let two = c .before .before .before .before in
+returns-4 c = let two = c .before .before in
     let p = two .before .before .before .before .pre in
     inl (refl, not-false _ (two .before .before .if1 .left), λ e. pos-left _ _ (p .0) (p .1) _ (c .before .heavier-by .ensures) (c .if3 .left))
 

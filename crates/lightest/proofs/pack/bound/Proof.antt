@@ -7,9 +7,8 @@ use Prim.Native.Nat.{_+_, _-_, _≤_, _<_, ℕ}
 use native.Mathlib.Nat.{pos-of-ne-zero}
 use native.Mathlib.Omega.{arith}
 use lib.ListN.{length, length-replicate}
-use Rattle.lightest.specs.declared.Cut.{Cut}
 use Rattle.route.specs.declared.Route.{Route}
-use Rattle.lightest.specs.Made.{Made}
+use Rattle.lightest.specs.Made.{Cut, Made, cutOf}
 use Rattle.lightest.specs.Search.{Unspent, Fair}
 use Rattle.graph.specs.Limits.{most-nodes, most-edges}
 use Rattle.lightest.proofs.Filled.{Earlier, route-same, Filled, filled-start, filled-next, filled-more, filled-end, filled-over, earlier-some, fair-route}
@@ -140,7 +139,7 @@ returns : tie.Need-returns Inv-loop μ-loop
 returns c =
     let w = c .before in
     let f = found-at w in
-    let s = start f .args .s in
+    let s = cutOf (start f .args .s) in
     let ms = start f .pre .1 .0 in
     let fi = turn f .before .loop .inv .4 s ms (turn f .before .before .before .unspent .ensures .1) in
     filled-over _ _ _ _ _ _ (start f .pre .0) s ms _ _ _ _ (filled w s ms fi) (some w s ms fi)
@@ -162,8 +161,9 @@ returns-2 : tie.Need-returns-2 Inv-loop μ-loop
 returns-2 c =
     let l = c .before in
     let st = l .before .before .before .before .before .before .before .before in
+    let s = cutOf (st .args .s) in
     let ms = st .pre .1 .0 in
-    filled-end _ _ _ _ _ _ (st .pre .0) (st .args .s) ms _ _ _ _ (l .loop .inv .4 (st .args .s) ms (l .before .before .unspent .ensures .1)) (c .loop-test .left)
+    filled-end _ _ _ _ _ _ (st .pre .0) s ms _ _ _ _ (l .loop .inv .4 s ms (l .before .before .unspent .ensures .1)) (c .loop-test .left)
 
 pub bound-spec : {M : Type 1} → statement M
 bound-spec =

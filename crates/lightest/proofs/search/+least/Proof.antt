@@ -1,9 +1,9 @@
 -- `lightest::search::least` meets its contract: by the bound, or edge by edge of a route. The allowance falls.
 -- Assumes nothing.
-use mathlib.Core.Bool.{false, Bool}
+use mathlib.Core.Bool.{true, false, Bool, true≢false}
 use mathlib.Core.List.{List}
 use mathlib.Core.Logic.{⊎-elim}
-use mathlib.Core.Path.{_≡_}
+use mathlib.Core.Path.{_≡_, refl, sym, ap, subst⁻¹, _∙_}
 use Prim.Native.Nat.{_-_, _≤_, ℕ, _<_, _+_}
 use native.Mathlib.Nat.{pos-of-ne-zero}
 use native.Mathlib.Omega.{arith}
@@ -11,43 +11,47 @@ use lib.ListN.{length, getD}
 use borrow.Author.Needs.{needs}
 use borrow.Fn.Kinds.{In}
 use borrow.Fn.PlainCycle.{Measures, is, falls, and}
-use Rattle.lightest.specs.Apart.{Apart}
-use Rattle.lightest.specs.Made.{Made}
+use Rattle.sets.specs.Whole.{whole}
 use Rattle.graph.specs.Limits.{most-edges}
+use Rattle.graph.proofs.Splits.{true-false}
+use Rattle.lightest.specs.declared.Pick as Weighed
+use Rattle.lightest.specs.Apart.{Apart}
+use Rattle.lightest.specs.Made.{Made, cutOf, pickOf}
+use Rattle.lightest.specs.Search.{Picked}
 use Rattle.lightest.proofs.Grown.{grown}
-use Rattle.lightest.proofs.Tried.{Tried, pick-all, pick-leaf, pick-low, pick-tight, tried-heavy, tried-hit, tried-miss, tried-none, tried-up, next-edge}
+use Rattle.lightest.proofs.Tried.{Tried, Deeper, lighter-first, pick-all, pick-leaf, pick-low, pick-tight, tried-heavy, tried-hit, tried-light, tried-miss, tried-none, tried-skip, tried-up}
 use Rattle.lightest.proofs.search.+least.{statement}
 use Rattle.lightest.proofs.search.+least.Tie.{close}
 use Rattle.lightest.proofs.search.least.Reads as least
 use Rattle.lightest.proofs.search.least.Kinds as least-kinds
 use Rattle.lightest.proofs.search.+least.Lts-least as least-lts
-use Rattle.lightest.proofs.pack.bound.Reads as bound-reads
-use Rattle.lightest.proofs.pack.edge_at.Reads as edge-at-reads
+use Rattle.lightest.proofs.search.level_of.Reads as level-of-reads
+use Rattle.sets.proofs.wide.has.Reads as has-reads
 use Rattle.lightest.proofs.pack.wider.Reads as wider-reads
 use Rattle.lightest.proofs.Cut.with_edge.Reads as with-edge-reads
 use Rattle.lightest.proofs.Pick.lighter.Reads as lighter-reads
 
-abbrev μ-least : Measures 6 least-kinds.ps ℕ
+abbrev μ-least : Measures 7 least-kinds.ps ℕ
 μ-least κs a = a .1 .1 .1 .1 .1 .1 .1 .0
 
-abbrev least-at : ℕ → In 6 least-kinds.ps
-least-at t = and 6 least-kinds.ps (is 6 least-kinds.ps μ-least t) least.Pre
+abbrev least-at : ℕ → In 7 least-kinds.ps
+least-at t = and 7 least-kinds.ps (is 7 least-kinds.ps μ-least t) least.Pre
 
-abbrev least-below : ℕ → In 6 least-kinds.ps
-least-below t = and 6 least-kinds.ps (falls 6 least-kinds.ps _<_ μ-least t) least.Pre
+abbrev least-below : ℕ → In 7 least-kinds.ps
+least-below t = and 7 least-kinds.ps (falls 7 least-kinds.ps _<_ μ-least t) least.Pre
 
 abbrev least-Inv-loop : least-lts.InvT-loop
-least-Inv-loop from to links ws firsts seconds s allowance b sum n best₀ rest₀ i₀ best rest i = (i ≤ n) × Tried ws (Apart from to firsts seconds) s allowance (b .route .edges) best rest i
+least-Inv-loop from to links ws firsts seconds s allowance best₀ found₀ b sum n rest₀ e₀ best found rest e = (e ≤ n) × Tried ws (Apart from to firsts seconds) (cutOf s) allowance (whole (b .route)) (pickOf found best) rest e × (found .found ≡ false → best ≡ best₀)
 
 abbrev least-μ-loop : least-lts.MeasureT-loop
-least-μ-loop from to links ws firsts seconds s allowance b sum n best₀ rest₀ i₀ best rest i = n - i
+least-μ-loop from to links ws firsts seconds s allowance best₀ found₀ b sum n rest₀ e₀ best found rest e = n - e
 
 abbrev calls : ℕ → least-lts.Claims
-calls t = (bound-reads.Asked, bound-reads.Learnt, edge-at-reads.Asked, edge-at-reads.Learnt, wider-reads.Asked, wider-reads.Learnt, with-edge-reads.Asked, with-edge-reads.Learnt, least-below t, least.Post, lighter-reads.Asked, lighter-reads.Learnt)
+calls t = (level-of-reads.Asked, level-of-reads.Learnt, has-reads.Asked, has-reads.Learnt, wider-reads.Asked, wider-reads.Learnt, with-edge-reads.Asked, with-edge-reads.Learnt, least-below t, least.Post, lighter-reads.Asked, lighter-reads.Learnt)
 
 module _ (t : ℕ) where
   -- what is known once there is a bound
-  module _ (b : least-lts.After-bound (calls t) (least-at t) least.Post least-Inv-loop least-μ-loop) where
+  module _ (b : least-lts.After-level-of (calls t) (least-at t) least.Post least-Inv-loop least-μ-loop) where
     abbrev start : least-lts.Start (calls t) (least-at t) least.Post least-Inv-loop least-μ-loop
     start = b .before .before .before .before .before .before
 
@@ -57,139 +61,192 @@ module _ (t : ℕ) where
     abbrev P : List Bool → Type 0
     P = Apart (start .args .from .now) (start .args .to .now) (start .args .firsts .now) (start .args .seconds .now)
 
-    abbrev made : Made ws (start .args .s)
+    abbrev made : Made ws (cutOf (start .args .s))
     made = start .pre .1 .1 .0
 
     few : length ws ≤ most-edges
     few = omega (arith, start .pre .1 .0 .net .few, start .pre .1 .0 .weights)
 
-  -- what is known of an edge of the route
-  module _ (w : least-lts.After-wider (calls t) (least-at t) least.Post least-Inv-loop least-μ-loop) where
-    abbrev edge : least-lts.After-edge-at (calls t) (least-at t) least.Post least-Inv-loop least-μ-loop
-    edge = w .before .before
-
+  -- what is known of an edge
+  module _ (h : least-lts.After-has (calls t) (least-at t) least.Post least-Inv-loop least-μ-loop) where
     abbrev round : least-lts.In-loop (calls t) (least-at t) least.Post least-Inv-loop least-μ-loop
-    round = edge .before .before .before
+    round = h .before .before .before
 
     abbrev turn : least-lts.At-loop (calls t) (least-at t) least.Post least-Inv-loop least-μ-loop
     turn = round .before
 
-    abbrev bound : least-lts.After-bound (calls t) (least-at t) least.Post least-Inv-loop least-μ-loop
-    bound = turn .before .before .before
+    abbrev level : least-lts.After-level-of (calls t) (least-at t) least.Post least-Inv-loop least-μ-loop
+    level = turn .before .before .before
 
-    abbrev tried : Tried (ws bound) (P bound) (start bound .args .s) (start bound .args .allowance) (bound .bound .result .route .edges) (turn .loop .best) (turn .loop .rest) (turn .loop .i)
+    -- what the edges before tell, of the best and the rest given
+    abbrev Tries : Weighed.Pick → List ℕ → ℕ → ℕ → Type 0
+    Tries found best rest e = Tried (ws level) (P level) (cutOf (start level .args .s)) (start level .args .allowance) (whole (level .level-of .result .route)) (pickOf found best) rest e
+
+    abbrev tried : Tries (turn .loop .found) (turn .loop .best) (turn .loop .rest) (turn .loop .e)
     tried = turn .loop .inv .1
 
-    known : (edge .edge-at .result < length (ws bound)) × (1 ≤ getD (ws bound) (edge .edge-at .result) 0) × (getD (start bound .args .s .chosen) (edge .edge-at .result) false ≡ false)
-    known = let h = round .loop-test .taken in next-edge (bound .bound .ensures .next (omega (arith, h))) _ _ h (edge .edge-at .ensures .0)
+    -- an edge to go on with
+    known : h .has .result ≡ true → (turn .loop .e < length (ws level)) × (1 ≤ getD (ws level) (turn .loop .e) 0) × (getD (cutOf (start level .args .s) .chosen) (turn .loop .e) false ≡ false)
+    known f = level .level-of .ensures .edge (pos-of-ne-zero (turn .before .if2 .left)) (turn .loop .e) (sym (h .has .ensures) ∙ f)
 
-  least-bound-requires : least-lts.Need-bound-requires (calls t) (least-at t) least.Post least-Inv-loop least-μ-loop
-  least-bound-requires c κs = search needs
+  -- what is known a level deeper
+  module _ (r : least-lts.After-least (calls t) (least-at t) least.Post least-Inv-loop least-μ-loop) where
+    abbrev larger : least-lts.After-with-edge (calls t) (least-at t) least.Post least-Inv-loop least-μ-loop
+    larger = r .before .before
+
+    abbrev weighed : least-lts.After-wider (calls t) (least-at t) least.Post least-Inv-loop least-μ-loop
+    weighed = larger .before .before
+
+    abbrev hit : least-lts.After-has (calls t) (least-at t) least.Post least-Inv-loop least-μ-loop
+    hit = weighed .before .before .before
+
+    -- the edges written by then
+    abbrev written : List ℕ
+    written = r .least .last .1 .1 .1 .1 .1 .1 .1 .1 .0
+
+    deeper : Deeper (ws (level hit)) (P (level hit)) (cutOf (start (level hit) .args .s)) (start (level hit) .args .allowance) (whole (level hit .level-of .result .route)) (pickOf (turn hit .loop .found) (turn hit .loop .best)) (turn hit .loop .rest) (turn hit .loop .e) (weighed .wider .result) (cutOf (larger .with-edge .result)) (pickOf (r .least .result) written)
+    deeper = let k = known hit (weighed .before .before .if3 .taken) in record {
+      few = few (level hit);
+      made = made (level hit);
+      tried = tried hit;
+      edge = k .0;
+      some = k .1;
+      out = k .2;
+      room = larger .before .if4 .taken;
+      chosen = larger .with-edge .ensures .0;
+      sum = larger .with-edge .ensures .1;
+      picked = r .least .ensures .0;
+    }
+
+  -- the lighter of two is the one just found
+  module _ (z : least-lts.After-lighter (calls t) (least-at t) least.Post least-Inv-loop least-μ-loop) where
+    abbrev found-at : least-lts.After-least (calls t) (least-at t) least.Post least-Inv-loop least-μ-loop
+    found-at = z .before .before
+
+    won : z .lighter .result ≡ found-at .least .result
+    won = lighter-first _ _ _ (z .before .if5 .taken) (tried-light (deeper found-at) (z .before .if5 .taken)) (z .lighter .ensures)
+
+    heft : z .lighter .result .weight ≡ found-at .least .result .weight
+    heft = ap (λ (x : Weighed.Pick). x .weight) won
+
+    up : start (level (hit found-at)) .args .s .weight + 1 ≤ z .lighter .result .weight
+    up = omega (arith, heft, tried-up (deeper found-at) (z .before .if5 .taken))
+
+    found : z .lighter .result .found ≡ true
+    found = ap (λ (x : Weighed.Pick). x .found) won ∙ z .before .if5 .taken
+
+    better : Tries (hit found-at) (z .lighter .result) (written found-at) (z .lighter .result .weight - start (level (hit found-at)) .args .s .weight - 1) (turn (hit found-at) .loop .e + 1)
+    better = subst⁻¹ (λ (x : Weighed.Pick). Tries (hit found-at) x (written found-at) (x .weight - start (level (hit found-at)) .args .s .weight - 1) (turn (hit found-at) .loop .e + 1)) won
+        (tried-hit (deeper found-at) (z .before .if5 .taken) _ (omega (arith, tried-up (deeper found-at) (z .before .if5 .taken))))
+
+  -- an edge more, in each of the four ways
+  on : (c : least-lts.Joined3 (calls t) (least-at t) least.Post least-Inv-loop least-μ-loop) → Tries (c .before) (c .if3 .found) (c .if3 .best) (c .if3 .rest) (turn (c .before) .loop .e + 1) × (c .if3 .found .found ≡ false → c .if3 .best ≡ start (level (c .before)) .args .best .now)
+  on c = let h = c .before in
+      let l = turn h .loop in
+      ⊎-elim (λ a.
+      let z : least-lts.After-lighter (calls t) (least-at t) least.Post least-Inv-loop least-μ-loop = record { before = record { before = record { before = record { before = record { before = record { before = record { before = record { before = record { before = h; if3 = a .0 }; shared-slice-known6 = a .1 }; wider = a .2 }; if4 = a .3 }; with-edge = a .4 }; least-arg = a .5 }; least = a .6 }; if5 = a .7 }; lighter = a .8 } in
+      rw (a .12, a .13, a .14) (better z, λ e. absurd (true-false (found z) e)))
+      (⊎-elim (λ a.
+      let r : least-lts.After-least (calls t) (least-at t) least.Post least-Inv-loop least-μ-loop = record { before = record { before = record { before = record { before = record { before = record { before = record { before = h; if3 = a .0 }; shared-slice-known6 = a .1 }; wider = a .2 }; if4 = a .3 }; with-edge = a .4 }; least-arg = a .5 }; least = a .6 } in
+      rw (a .8 ∙ a .6 .ensures .1 (a .7 .left), a .9, a .10) (tried-miss (deeper r) (a .7 .left), l .inv .2))
+      (⊎-elim (λ a. let k = known h (a .0 .taken) in rw (a .4, a .5, a .6) (tried-heavy _ _ (few (level h)) _ (made (level h)) _ _ _ _ _ (tried h) (k .0) (k .1) (k .2) (omega (arith, a .3 .left, a .2 .ensures .0)), l .inv .2))
+      (λ a. rw (a .1, a .2, a .3) (tried-skip _ _ (few (level h)) _ (made (level h)) _ _ _ _ _ (tried h) (sym (h .has .ensures) ∙ a .0 .left), l .inv .2))))
+      (c .if3 .came)
+
+  least-level-of-requires : least-lts.Need-level-of-requires (calls t) (least-at t) least.Post least-Inv-loop least-μ-loop
+  least-level-of-requires c κs = c .before .before .before .before .before .pre .1
 
   least-returns : least-lts.Need-returns (calls t) (least-at t) least.Post least-Inv-loop least-μ-loop
-  least-returns c = let b = c .before in pick-low _ _ (few b) _ (made b) _ (b .bound .result .left) _ (b .bound .ensures .packed) (c .if1 .taken)
+  least-returns c = let b = c .before in (pick-low _ _ (few b) _ (made b) _ _ (b .level-of .ensures .packed .0) _ (b .level-of .ensures .packed .1) (c .if1 .taken), λ e. refl)
 
   least-returns-2 : least-lts.Need-returns-2 (calls t) (least-at t) least.Post least-Inv-loop least-μ-loop
-  least-returns-2 c = let b = c .before .before in pick-leaf _ _ (few b) _ (made b) _ (b .bound .ensures .none (c .if2 .taken))
+  least-returns-2 c = let b = c .before .before .before in (pick-leaf _ _ (few b) _ (made b) _ (b .level-of .ensures .none (c .before .if2 .taken)), λ e. absurd (true≢false e))
 
   least-loop-holds : least-lts.Need-loop-holds (calls t) (least-at t) least.Post least-Inv-loop least-μ-loop
-  least-loop-holds c = let b = c .before .before in (omega arith, tried-none _ _ (few b) _ (made b) _ _)
+  least-loop-holds c = let b = c .before .before in (omega arith, tried-none _ _ (few b) _ (made b) _ _ _, λ e. refl)
 
-  least-edge-at-requires : least-lts.Need-edge-at-requires (calls t) (least-at t) least.Post least-Inv-loop least-μ-loop
-  least-edge-at-requires c κs = let n = c .before .before in (n .loop-test .taken, n .before .before .before .before .bound .ensures .fair)
+  least-has-requires : least-lts.Need-has-requires (calls t) (least-at t) least.Post least-Inv-loop least-μ-loop
+  least-has-requires c κs = let n = c .before .before in omega (arith, n .loop-test .taken, few (n .before .before .before .before))
 
   least-mul-wider : least-lts.Need-mul-wider (calls t) (least-at t) least.Post least-Inv-loop least-μ-loop
-  least-mul-wider c = search needs
+  least-mul-wider c = let h = c .before in record { fits = omega (arith, round h .loop-test .taken, few (level h)) }
 
   least-shared-slice-read-wider : least-lts.Need-shared-slice-read-wider (calls t) (least-at t) least.Post least-Inv-loop least-μ-loop
-  least-shared-slice-read-wider c = let g = c .before in
-      let n = g .before .before .before in
-      next-edge (n .before .before .before .before .bound .ensures .next (omega (arith, n .loop-test .taken))) _ _ (n .loop-test .taken) (g .edge-at .ensures .0) .0
-
-  least-wider-requires : least-lts.Need-wider-requires (calls t) (least-at t) least.Post least-Inv-loop least-μ-loop
-  least-wider-requires c κs = search needs
+  least-shared-slice-read-wider c = round (c .before .before) .loop-test .taken
 
   least-with-edge-requires : least-lts.Need-with-edge-requires (calls t) (least-at t) least.Post least-Inv-loop least-μ-loop
-  least-with-edge-requires c κs = let w = c .before in (edge w .edge-at .ensures .1, omega (arith, c .if3 .taken, tried w .low, start (bound w) .pre .1 .1 .1))
+  least-with-edge-requires c κs = let w = c .before in
+      let h = w .before .before .before in
+      (omega (arith, round h .loop-test .taken, few (level h)), omega (arith, c .if4 .taken, tried h .low, start (level h) .pre .1 .1 .1))
 
   least-least-requires : least-lts.Need-least-requires (calls t) (least-at t) least.Post least-Inv-loop least-μ-loop
-  least-least-requires c κs = let w = c .before .before in
-      let st = start (bound w) in
-      let s = c .with-edge .ensures in (
-        omega (arith, c .before .if3 .taken, tried w .low, st .pre .0, known w .1, w .wider .ensures .0),
+  least-least-requires c κs = let d = c .before in
+      let w = d .before .before in
+      let h = w .before .before .before in
+      let st = start (level h) in
+      let k = known h (w .before .before .if3 .taken) in
+      let s = d .with-edge .ensures in (
+        omega (arith, d .before .if4 .taken, tried h .low, st .pre .0, k .1, w .wider .ensures .0),
         (
           st .pre .1 .0,
           (
-            grown _ (few (bound w)) _ (made (bound w)) _ (known w .0) (known w .1) (known w .2) _ _ (w .wider .ensures .0) (omega (arith, c .before .if3 .taken, tried w .low, st .pre .1 .1 .1)) (s .0) (s .1),
-            omega (arith, s .1, c .before .if3 .taken, tried w .low, st .pre .1 .1 .1),
+            grown _ (few (level h)) _ (made (level h)) _ (k .0) (k .1) (k .2) _ _ (w .wider .ensures .0) (omega (arith, d .before .if4 .taken, tried h .low, st .pre .1 .1 .1)) (s .0) (s .1),
+            omega (arith, s .1, d .before .if4 .taken, tried h .low, st .pre .1 .1 .1),
           ),
         ),
       )
 
   least-lighter-requires : least-lts.Need-lighter-requires (calls t) (least-at t) least.Post least-Inv-loop least-μ-loop
-  least-lighter-requires c κs = (c .before .least .ensures .small, tried (c .before .before .before .before) .small)
-
-  -- the lighter of what was found and the best before weighs at least 1 more than s
-  up : (z : least-lts.After-lighter (calls t) (least-at t) least.Post least-Inv-loop least-μ-loop) → start (bound (z .before .before .before .before .before)) .args .s .weight + 1 ≤ z .lighter .result .cut .weight
-  up z = let r = z .before .before in
-      let d = r .before in
-      let w = d .before .before in
-      tried-up _ _ (few (bound w)) _ (made (bound w)) _ _ _ _ _ (tried w) _ (edge w .edge-at .ensures .0) (known w .0) (known w .1) (known w .2) _ (w .wider .ensures .0) (d .before .if3 .taken) _ (d .with-edge .ensures .0) (d .with-edge .ensures .1) _ (r .least .ensures) (z .before .if4 .taken) _ (z .lighter .ensures)
+  least-lighter-requires c κs = let r = c .before in (r .least .ensures .0 .small, tried (hit r) .small)
 
   least-sub-spent : least-lts.Need-sub-spent (calls t) (least-at t) least.Post least-Inv-loop least-μ-loop
-  least-sub-spent c = omega (arith, up (c .before .before .before))
+  least-sub-spent c = omega (arith, up (c .before .before))
 
   least-returns-3 : least-lts.Need-returns-3 (calls t) (least-at t) least.Post least-Inv-loop least-μ-loop
-  least-returns-3 c = let z = c .before .before .before .before in
-      let r = z .before .before in
-      let d = r .before in
-      let w = d .before .before in
-      pick-tight _ _ (few (bound w)) _ (made (bound w)) _ _ _ _ _ (tried w) _ (edge w .edge-at .ensures .0) (known w .0) (known w .1) (known w .2) _ (w .wider .ensures .0) (d .before .if3 .taken) _ (d .with-edge .ensures .0) (d .with-edge .ensures .1) _ (r .least .ensures) (z .before .if4 .taken) _ (bound w .bound .result .left) _ (z .lighter .ensures) (bound w .bound .ensures .packed)
-      (omega (arith, c .if5 .taken, up z))
+  least-returns-3 c = let z = c .before .before .before in
+      let b = level (hit (found-at z)) in (
+        subst⁻¹ (λ (x : Weighed.Pick). Picked (ws b) (P b) (cutOf (start b .args .s)) (start b .args .allowance) (pickOf x (written (found-at z)))) (won z)
+            (pick-tight (deeper (found-at z)) (z .before .if5 .taken) (b .level-of .ensures .packed .0) _ (b .level-of .ensures .packed .1) (omega (arith, c .if6 .taken, up z, heft z))),
+        λ e. absurd (true-false (found z) e),
+      )
 
   least-sub-rest : least-lts.Need-sub-rest (calls t) (least-at t) least.Post least-Inv-loop least-μ-loop
-  least-sub-rest c = omega (arith, up (c .before .before .before .before))
+  least-sub-rest c = omega (arith, up (c .before .before .before))
 
-  least-add-i : least-lts.Need-add-i (calls t) (least-at t) least.Post least-Inv-loop least-μ-loop
-  least-add-i c = let w = c .before in record { fits = omega (arith, round w .loop-test .taken, bound w .bound .ensures .fair .short) }
+  least-add-e : least-lts.Need-add-e (calls t) (least-at t) least.Post least-Inv-loop least-μ-loop
+  least-add-e c = let h = c .before in record { fits = omega (arith, round h .loop-test .taken, few (level h)) }
 
   least-loop-less : least-lts.Need-loop-less (calls t) (least-at t) least.Post least-Inv-loop least-μ-loop
   least-loop-less c = omega (arith, round (c .before) .loop-test .taken)
 
   least-loop-again : least-lts.Need-loop-again (calls t) (least-at t) least.Post least-Inv-loop least-μ-loop
-  least-loop-again c = let w = c .before in
-      let v = w .wider .ensures .0 in (
-        omega (arith, round w .loop-test .taken),
-        ⊎-elim (λ a. rw (a .9, a .10) (tried-hit _ _ (few (bound w)) _ (made (bound w)) _ _ _ _ _ (tried w) _ (edge w .edge-at .ensures .0) (known w .0) (known w .1) (known w .2) _ v (a .0 .taken) _ (a .1 .ensures .0) (a .1 .ensures .1) _ (a .2 .ensures) (a .3 .taken) _ _ (a .4 .ensures)
-            (omega (arith, tried-up _ _ (few (bound w)) _ (made (bound w)) _ _ _ _ _ (tried w) _ (edge w .edge-at .ensures .0) (known w .0) (known w .1) (known w .2) _ v (a .0 .taken) _ (a .1 .ensures .0) (a .1 .ensures .1) _ (a .2 .ensures) (a .3 .taken) _ (a .4 .ensures)))))
-            (⊎-elim (λ a. rw (a .4, a .5) (tried-miss _ _ (few (bound w)) _ (made (bound w)) _ _ _ _ _ (tried w) _ (edge w .edge-at .ensures .0) (known w .0) (known w .1) (known w .2) _ v (a .0 .taken) _ (a .1 .ensures .0) (a .1 .ensures .1) _ (a .2 .ensures) (a .3 .left)))
-            (λ a. rw (a .1, a .2) (tried-heavy _ _ (few (bound w)) _ (made (bound w)) _ _ _ _ _ (tried w) _ (edge w .edge-at .ensures .0) (known w .0) (known w .1) (known w .2) (omega (arith, a .0 .left, v)))))
-            (c .if3 .came),
-      )
+  least-loop-again c = let h = c .before in
+      let s = on c in
+      (omega (arith, round h .loop-test .taken), s .0, s .1)
 
   least-returns-4 : least-lts.Need-returns-4 (calls t) (least-at t) least.Post least-Inv-loop least-μ-loop
   least-returns-4 c = let l = c .before in
       let b = l .before .before .before in
-      let z : l .loop .i ≡ b .bound .result .route .len = omega (arith, l .loop .inv .0, c .loop-test .left) in
-      pick-all _ _ (few b) _ (made b) _ (b .bound .result .route) _ _ (b .bound .ensures .next (pos-of-ne-zero (l .before .if2 .left))) (rw z at (l .loop .inv .1))
+      let some = pos-of-ne-zero (l .before .if2 .left) in
+      (pick-all _ _ (few b) _ (made b) _ (whole (b .level-of .result .route)) _ _ (l .loop .e) (λ e f. omega (arith, b .level-of .ensures .edge some e f .0, c .loop-test .left)) (b .level-of .ensures .must some) (l .loop .inv .1), l .loop .inv .2)
 
 pub +least-spec : {M : Type 1} → statement M
 +least-spec = close μ-least λ t. least-lts.spec (calls t) (least-at t) least.Post least-Inv-loop least-μ-loop
-    (least-bound-requires t)
+    (least-level-of-requires t)
     (least-returns t)
     (least-returns-2 t)
     (least-loop-holds t)
-    (least-edge-at-requires t)
+    (least-has-requires t)
     (least-mul-wider t)
     (least-shared-slice-read-wider t)
-    (least-wider-requires t)
+    (λ c κs. search needs)  -- least-wider-requires
     (least-with-edge-requires t)
     (least-least-requires t)
     (least-lighter-requires t)
     (least-sub-spent t)
     (least-returns-3 t)
     (least-sub-rest t)
-    (least-add-i t)
+    (least-add-e t)
     (least-loop-less t)
     (least-loop-again t)
     (least-returns-4 t)

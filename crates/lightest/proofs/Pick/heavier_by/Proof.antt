@@ -1,9 +1,9 @@
--- `lightest::Cut::heavier_by` meets its contract: the difference fits.
+-- `lightest::Pick::heavier_by` meets its contract: the difference fits.
 -- Assumes nothing.
 use borrow.Author.Needs.{needs}
 use Rattle.lightest.proofs.Diff.{cast-diff-fits, cast-diff-back}
-use Rattle.lightest.proofs.Cut.heavier_by.Statement.{statement}
-use Rattle.lightest.proofs.Cut.heavier_by.Tie as tie
+use Rattle.lightest.proofs.Pick.heavier_by.Statement.{statement}
+use Rattle.lightest.proofs.Pick.heavier_by.Tie as tie
 
 cast-result : tie.Need-cast-result
 cast-result c = search needs
