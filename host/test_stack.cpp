@@ -17,7 +17,7 @@ namespace {
 using Word = std::uint64_t;
 
 constexpr Word paint = 0x5A5A5A5A5A5A5A5A;
-std::vector<Word> stack((16 << 20) / sizeof(Word), paint);
+std::vector<Word> stack((4 << 20) / sizeof(Word), paint);
 ucontext_t caller, callee;
 std::function<void()> work;
 

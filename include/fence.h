@@ -93,13 +93,13 @@ extern "C" {
 #define FENCE_ROUTE_ENTRIES 512
 
 /*
- * Bytes of stack that a call takes at most. Run's search goes one level deeper for each edge of the cut it
- * tries and takes 9.5 KB for it; the walk of run and ask takes 5 KB for each node of a route. The 8 MiB that
- * a main thread mostly has are enough for cuts of 850 edges; where a file may need more, give the thread that
- * calls run a stack of this size.
+ * Bytes of stack that a call takes at most, for a thread that has a small one. Run's search goes one level
+ * deeper for each edge of the cut it tries and takes 784 bytes for it; the walk of run and ask takes 208 for
+ * each node of a route. Measured, the deepest calls leave a tenth of run's number free, a seventh of ask's and
+ * a third of strip's.
  */
-#define FENCE_RUN_STACK 12582912
-#define FENCE_ASK_STACK 3145728
+#define FENCE_RUN_STACK 1048576
+#define FENCE_ASK_STACK 262144
 #define FENCE_STRIP_STACK 65536
 
 /* What run and strip return. */
