@@ -1,25 +1,27 @@
-// Times run and ask on files of 60 nodes, for a comparison of two builds: see against.py, which tells for which
-// file.
+// Times run and ask on files of 60 nodes, or of 400 to 512, for a comparison of two builds: see against.py, which
+// tells for which file.
 //
 //     against SEED ORDERS      numbers of files on standard input, a line for each on standard output
 //
-// ORDERS is how many a file has; 0 stands for all numbers in turn.
+// ORDERS is how many a file of 60 nodes has; 0 stands for all numbers in turn, and "large" for the larger files.
 #include <algorithm>
 #include <chrono>
 #include <cstdio>
 #include <cstdlib>
 #include <functional>
 #include <iostream>
+#include <string>
 
 #include "corpus.hpp"
 #include "fence.h"
 
 namespace {
 
-// The least of a few calls in nanoseconds: what else the machine does only adds to it.
+// The least of a few calls in nanoseconds: what else the machine does only adds to it. A long call is enough by
+// itself.
 double least_time(const std::function<void()> &call) {
     double least = 1e18;
-    for (unsigned i = 0; i < 5; ++i) {
+    for (unsigned i = 0; i < 5 && (i == 0 || least < 1e8); ++i) {
         const auto start = std::chrono::steady_clock::now();
         call();
         const std::chrono::duration<double, std::nano> took = std::chrono::steady_clock::now() - start;
@@ -56,7 +58,8 @@ void measure(const corpus::Instance &instance) {
 int main(int arguments, char **argument) {
     if (arguments < 3) return 2;
     const std::uint64_t seed = std::strtoull(argument[1], nullptr, 10);
-    const auto files = corpus::sixty_of_all(seed, static_cast<unsigned>(std::strtoul(argument[2], nullptr, 10)));
+    const std::string orders = argument[2];
+    const auto files = orders == "large" ? corpus::real(seed) : corpus::sixty_of_all(seed, std::stoul(orders));
     std::printf("%zu\n", files.size());
     std::fflush(stdout);
     for (std::size_t number; std::cin >> number;) measure(files.at(number));

@@ -1,5 +1,5 @@
 #!/usr/bin/env bash
-# Times the library beside another build of it, on files of 60 nodes. Writes bench/AGAINST.md.
+# Times the library beside another build of it, on files of 60 nodes and of 400 to 512. Writes bench/AGAINST.md.
 #
 #     bench/against.sh OTHER_ARCHIVE [SEED]      OTHER_ARCHIVE is the libfence.a of the build before
 set -eu -o pipefail
@@ -14,7 +14,7 @@ host=$PWD/../host
 . "$host/machine.sh"
 [ -f "$archive" ] || { echo "the library is missing: run 'rt staticlib fence'"; exit 1; }
 install_missing python3 || { echo "packages could not be installed: see $install_log"; exit 1; }
-ulimit -s 65536 # as in run.sh
+ulimit -s 65536 # the other build may want it
 
 mkdir -p "$build"
 program() {
@@ -24,29 +24,34 @@ program() {
 program before "$other"
 program after "$archive"
 
-# A table for files with so many orders.
+# A table for files with so many orders, each measured so many times.
 compared() {
     local before=("${emulator[@]}" "$build/before" "$seed" "$1")
     local after=("${emulator[@]}" "$build/after" "$seed" "$1")
-    python3 -B against.py 5 "${before[@]}" -- "${after[@]}"
+    python3 -B against.py "$2" "${before[@]}" -- "${after[@]}"
 }
 
-mixed=$(compared 0)
-most=$(compared 32)
+mixed=$(compared 0 5)
+most=$(compared 32 5)
+large=$(compared large 2)
 cat >AGAINST.md <<END
 # Beside the build before
 
-Medians in microseconds for one call at 60 nodes with all kinds of weights; of each file the least of several calls.
+Medians in microseconds for one call, with all kinds of weights; of each file the least of several calls.
 "Of a file" is the median of the files' own ratios: about half of a family's files, by their rules, take several times as
 long as the others, and a median of times may fall between the two. Both builds took turns, ${emulator[0]:+under an emulator (${emulator[0]}) }on $(uname -m).
 Made by \`bench/against.sh\`.
 
-## 1, 2, 4, 8, 16 and 32 orders
+## 60 nodes, 1, 2, 4, 8, 16 and 32 orders
 
 $mixed
 
-## 32 orders
+## 60 nodes, 32 orders
 
 $most
+
+## 400 to 512 nodes, 1, 2, 4, 8, 16 and 32 orders
+
+$large
 END
 cat AGAINST.md

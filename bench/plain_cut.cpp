@@ -131,10 +131,11 @@ private:
 
     // The lightest cut that contains this one and costs at most so much more.
     Found least(const Cut &cut, std::uint64_t allowance) const {
-        const Bound lower = bound(cut, allowance);
+        Bound lower = bound(cut, allowance);
         Found best;
         if (lower.total > allowance) return best;
         if (lower.first.length == 0) return {true, cut};
+        std::sort(lower.first.edges, lower.first.edges + lower.first.length);
         std::uint64_t rest = allowance;
         for (unsigned p = 0; p < lower.first.length; ++p) {
             const unsigned edge = lower.first.edges[p], weight = graph_.edges[edge].weight;

@@ -16,7 +16,7 @@ host=$PWD/../host
 [ -f "$archive" ] || { echo "the library is missing: run 'rt staticlib fence'"; exit 1; }
 install_missing glpk-utils coinor-cbc python3 || { echo "packages could not be installed: see $install_log"; exit 1; }
 
-ulimit -s 65536 # run's search goes one call deeper for each edge of a cut it tries
+ulimit -s 65536 # the plain version goes one call deeper for each edge of a cut it tries, with some KB for each
 
 mkdir -p "$build/programs"
 $cxx -std=c++17 -O3 -DNDEBUG -Wall -Wextra -I ../include -I "$host" -o "$build/measure" \
