@@ -38,17 +38,22 @@ std::size_t stack_of(std::function<void()> call) {
     return words * sizeof(Word);
 }
 
-// 31 sources, each with an edge to the sink and over 31 nodes whose edges on to it are too heavy to cut: the least
-// cut has 992 of the 1,023 edges, and the search goes one deeper for each.
+// 32 sources, each with an edge to every node of a line whose own edges are too heavy to cut. Shortcuts on the line
+// have lower numbers than the last source's edges, so the search tries them first, though the least cut has none:
+// it goes 1,001 levels down, one for each edge but those of the line.
 Request deep() {
-    const unsigned sources = 31, sink = 2 * sources;
-    Request request{std::vector<Node>(sink + 1, {store, 1}), {}, fence_rules, {}};
-    for (unsigned source = 0; source < sources; ++source) {
-        for (unsigned middle = sources; middle < sink; ++middle) request.edges.push_back({source, middle, 1});
-        request.edges.push_back({source, sink, 1});
-        request.orders.push_back({source, sink});
-    }
-    for (unsigned middle = sources; middle < sink; ++middle) request.edges.push_back({middle, sink, 65535});
+    const unsigned sources = 32, length = 24, end = sources + length;
+    Request request{std::vector<Node>(512, {store, 1}), {}, fence_rules, {}};
+    const auto leave = [&](unsigned source) {
+        for (unsigned node = sources; node < end; ++node) request.edges.push_back({source, node, 1});
+    };
+    for (unsigned source = 0; source + 1 < sources; ++source) leave(source);
+    for (unsigned from = sources; from < end; ++from)
+        for (unsigned to = from + 2; to < end; ++to) request.edges.push_back({from, to, 1});
+    request.edges.resize(1024 - length - (length - 1));
+    leave(sources - 1);
+    for (unsigned node = sources; node + 1 < end; ++node) request.edges.push_back({node, node + 1, 65535});
+    for (unsigned source = 0; source < sources; ++source) request.orders.push_back({source, end - 1});
     return request;
 }
 

@@ -43,6 +43,7 @@ fn edges_of(route: Route) -> WideSet
     set
 }
 
+// What a level keeps of the bound on s. It is a function by itself so that the bound's arrays are gone when the search goes deeper.
 fn level_of(
     from: &[u16],
     to: &[u16],

@@ -134,8 +134,8 @@ unfolding less
 less-block a b r s p q = ap (bitXor (a * 2 ^ 64 + r)) (and-block 64 a b r s p q) ∙ xor-block 64 a (bitAnd a b) r (bitAnd r s) p (and-lt 64 r s p q)
 
 -- one number alone
-one-low : (j : ℕ) → j < 64 → put 0 j ≡ 0 * 2 ^ 64 + put 0 j
-one-low j l = omega arith
+one-low : (j : ℕ) → put 0 j ≡ 0 * 2 ^ 64 + put 0 j
+one-low j = omega arith
 
 one-high : (k : ℕ) → put 0 (64 + k) ≡ put 0 k * 2 ^ 64 + 0
 one-high k = let z : 0 ≡ 0 * 2 ^ 64 + 0 = omega arith in ap (λ (x : ℕ). put x (64 + k)) z ∙ sym (put-high 0 0 k (pow-pos 64))
@@ -146,7 +146,7 @@ whole-out [] i j s h l = absurd (omega (arith, h))
 whole-out (w ∷ ws) zero j s h l =
     let e : j ≡ 0 * 64 + j = omega arith in
     ap (λ (x : ℕ). x * 2 ^ 64 + less w (put 0 j)) (sym (less-zero (whole ws)))
-    ∙ sym (ap (less (whole ws * 2 ^ 64 + w)) (one-low j l) ∙ less-block (whole ws) 0 w (put 0 j) (s 0) (put-lt 0 j (pow-pos 64) l)) ∙ ap (λ (x : ℕ). less (whole ws * 2 ^ 64 + w) (put 0 x)) e
+    ∙ sym (ap (less (whole ws * 2 ^ 64 + w)) (one-low j) ∙ less-block (whole ws) 0 w (put 0 j) (s 0) (put-lt 0 j (pow-pos 64) l)) ∙ ap (λ (x : ℕ). less (whole ws * 2 ^ 64 + w) (put 0 x)) e
 whole-out (w ∷ ws) (suc i) j s h l =
     let e : 64 + (i * 64 + j) ≡ suc i * 64 + j = omega arith in
     ap₂ (λ (x y : ℕ). x * 2 ^ 64 + y) (whole-out ws i j (λ k. s (suc k)) (omega (arith, h)) l) (sym (less-zero w))

@@ -1,13 +1,12 @@
 -- What the walk is lent comes back: the route, and where no way was found the sets that grow along it.
 -- Assumes nothing.
 use mathlib.Core.Bool.{Bool, true, false, true≢false}
-use mathlib.Core.List.{List, [], _∷_, _++_}
+use mathlib.Core.List.{List, _++_}
 use mathlib.Core.Path.{_≡_, refl, sym, ap, subst, _∙_}
-use Prim.Native.Nat.{ℕ, zero, suc, _+_, _≤_}
-use native.Mathlib.Numerals.{add-one}
+use Prim.Native.Nat.{ℕ, _+_, _≤_}
 use native.Mathlib.Omega.{arith}
 use lib.ListN.{length, set, take, length-set}
-use lib.Seq.{take-set-le}
+use lib.Seq.{take-take, take-set-le}
 use Rattle.graph.specs.Limits.{most-nodes}
 use Rattle.walk.specs.Search.{Answer, Back, Earliest}
 
@@ -50,14 +49,6 @@ back-as {n} {s = s} {s₁ = s₁} {a = a} {a₁ = a₁} {l = l} {l₁ = l₁} e 
 pub back-end : {way : Bool} {s s₁ : ℕ} (a : ℕ) (l : List ℕ) (n m v : ℕ) → n ≡ m → (way ≡ false → s₁ ≡ s) → Back m way s s₁ a a l (set l n v)
 back-end a l n m v e same = record { on-route = same; marked = λ z. refl; route = take-set-le m l n v (omega (arith, e)); long = length-set l n v }
 
-take-in : (n : ℕ) (l m : List ℕ) → take (suc n) l ≡ take (suc n) m → take n l ≡ take n m
-take-in n l m e = sym (cut n l) ∙ ap (take n) e ∙ cut n m
-  where
-    cut : (k : ℕ) (x : List ℕ) → take k (take (suc k) x) ≡ take k x
-    cut zero x = refl
-    cut (suc k) [] = refl
-    cut (suc k) (y ∷ x) = ap (λ (t : List ℕ). y ∷ t) (cut k x)
-
 -- one node more was on the route while its edges were tried
 pub back-inner : {way : Bool} {s s₁ s₂ s₃ a a₁ a₂ a₃ : ℕ} {l l₂ : List ℕ} (n m o v : ℕ)
     → n ≡ m
@@ -69,9 +60,9 @@ pub back-inner : {way : Bool} {s s₁ s₂ s₃ a a₁ a₂ a₃ : ℕ} {l l₂ 
 back-inner {l = l} {l₂ = l₂} n m o v e f same after y = record {
   on-route = λ z. same z (y .on-route z);
   marked = after;
-  route = take-in m l₂ (set l n v) (ap (λ (x : ℕ). take x l₂) (sym o′) ∙ y .route ∙ ap (λ (x : ℕ). take x (set l n v)) o′) ∙ take-set-le m l n v (omega (arith, e));
+  route = sym (take-take m o l₂ within) ∙ ap (take m) (y .route) ∙ take-take m o (set l n v) within ∙ take-set-le m l n v (omega (arith, e));
   long = y .long ∙ length-set l n v;
 }
   where
-    o′ : o ≡ suc m
-    o′ = f ∙ add-one m
+    within : m ≤ o
+    within = omega (arith, f)
