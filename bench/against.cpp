@@ -36,7 +36,7 @@ std::uint64_t checksum(const reference::Bytes &bytes) {
     return sum;
 }
 
-// Family, run's answer, a checksum of what it wrote, its time, and the time of ask for one order.
+// Family, run's answer, its cut's weight, a checksum of what it wrote, its time, and the time of ask for one order.
 void measure(const corpus::Instance &instance) {
     const reference::Bytes file = reference::written(instance.request);
     const std::size_t orders = instance.request.orders.size();
@@ -48,8 +48,9 @@ void measure(const corpus::Instance &instance) {
     const double ask = least_time([&] {
         for (std::size_t i = 0; i < orders; ++i) fence_ask(file.data(), file.size(), i, route, FENCE_ROUTE_ENTRIES);
     });
-    std::printf("%s,%d,%llu,%.0f,%.0f\n", instance.family.c_str(), static_cast<int>(report.answer),
-                static_cast<unsigned long long>(checksum(out)), run, ask / static_cast<double>(orders));
+    std::printf("%s,%d,%llu,%llu,%.0f,%.0f\n", instance.family.c_str(), static_cast<int>(report.answer),
+                static_cast<unsigned long long>(report.weight), static_cast<unsigned long long>(checksum(out)), run,
+                ask / static_cast<double>(orders));
     std::fflush(stdout);
 }
 

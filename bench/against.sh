@@ -39,7 +39,8 @@ cat >AGAINST.md <<END
 
 Medians in microseconds for one call, with all kinds of weights; of each file the least of several calls.
 "Of a file" is the median of the files' own ratios: about half of a family's files, by their rules, take several times as
-long as the others, and a median of times may fall between the two. Both builds took turns, ${emulator[0]:+under an emulator (${emulator[0]}) }on $(uname -m).
+long as the others, and a median of times may fall between the two. "Worst" is the longest of a family's runs, and "most
+of a file" the highest of the files' own ratios. Both builds took turns, ${emulator[0]:+under an emulator (${emulator[0]}) }on $(uname -m).
 Made by \`bench/against.sh\`.
 
 ## 60 nodes, 1, 2, 4, 8, 16 and 32 orders

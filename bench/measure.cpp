@@ -1,10 +1,10 @@
 // Times ask and run of the library, and run of the plain version, on the corpus, a line for each instance; and
-// writes each instance's cut as an integer program for the solvers.
+// writes the instances' files for the solvers.
 //
 //     measure SEED FOLDER LIMIT
 //
-// Results go to standard output, and to FOLDER/N.lp for each instance with an open order. A run of the library is
-// stopped after LIMIT seconds.
+// Results go to standard output, each instance to FOLDER/N.request. A run of the library is stopped after LIMIT
+// seconds.
 #include <sys/wait.h>
 #include <unistd.h>
 
@@ -13,13 +13,13 @@
 #include <csignal>
 #include <cstdio>
 #include <cstdlib>
+#include <fstream>
 #include <functional>
 #include <stdexcept>
 
 #include "corpus.hpp"
 #include "fence.h"
 #include "plain.hpp"
-#include "program.hpp"
 
 namespace {
 
@@ -103,15 +103,22 @@ void print_start(const char *set, std::size_t number, const corpus::Instance &in
                 r.nodes.size(), r.edges.size(), r.orders.size());
 }
 
-// Measures one instance, prints its line, and writes its program. False where library and plain version differ.
+void save(const Bytes &file, const std::string &path) {
+    std::ofstream out(path, std::ios::binary);
+    out.write(reinterpret_cast<const char *>(file.data()), static_cast<std::streamsize>(file.size()));
+    if (!out.flush()) throw std::runtime_error("a request could not be written");
+}
+
+// Measures one instance, prints its line, and writes its file. False where library and plain version differ.
 bool measure(const corpus::Instance &instance, const std::string &path, unsigned limit) {
     const Bytes file = reference::written(instance.request);
     Bytes out(FENCE_MAX_FILE);
     const Asked asked = ask_all(file, instance.request.orders.size());
     plain::Graph graph;
     if (plain::read(file.data(), file.size(), graph).answer != 0) return false;
-    if (plain::open_orders(graph) != asked.open) return false;
-    program::write(graph, asked.open, path);
+    const plain::Fits fits = plain::fits_of(graph);
+    if (plain::open_orders(graph, fits) != asked.open) return false;
+    save(file, path);
     std::printf("%d,%.0f,%.0f,", __builtin_popcount(asked.open), asked.times[asked.times.size() / 2],
                 asked.times.back());
     if (!ends([&] { fence_run(file.data(), file.size(), out.data(), out.size()); }, limit)) {
@@ -121,7 +128,8 @@ bool measure(const corpus::Instance &instance, const std::string &path, unsigned
     const Done ours = done(fence_run, file), theirs = done(plain::run, file);
     if (!same(ours, theirs)) return false;
     std::printf("0,%d,%llu,%.0f,%.0f\n", static_cast<int>(ours.report.answer),
-                static_cast<unsigned long long>(plain::chosen(graph, asked.open).weight), ours.time, theirs.time);
+                static_cast<unsigned long long>(plain::chosen(graph, fits, asked.open).weight), ours.time,
+                theirs.time);
     return true;
 }
 
@@ -140,7 +148,7 @@ int main(int arguments, char **argument) {
     for (const auto &[name, instances] : sets) {
         for (const corpus::Instance &instance : instances) {
             print_start(name, number, instance);
-            if (!measure(instance, folder + "/" + std::to_string(number) + ".lp", limit)) {
+            if (!measure(instance, folder + "/" + std::to_string(number) + ".request", limit)) {
                 std::fprintf(stderr, "instance %zu: library and plain version differ\n", number);
                 return 1;
             }

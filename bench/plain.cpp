@@ -44,7 +44,8 @@ fence_report run(const std::uint8_t *file, std::size_t length, std::uint8_t *out
     Graph graph;
     const Refusal refusal = read(file, length, graph);
     if (refusal.answer != 0) return {refusal.answer, refusal.place, 0, 0, 0};
-    const Cut cut = chosen(graph, open_orders(graph));
+    const Fits fits = fits_of(graph);
+    const Cut cut = chosen(graph, fits, open_orders(graph, fits));
     const std::size_t fences = cut.edges.count(), written = length + 12 * fences;
     if (graph.node_count + fences > most_nodes || graph.edge_count + fences > most_edges) return {9, 0, 0, 0, 0};
     if (written > room) return {11, 0, 0, 0, 0};

@@ -1,17 +1,11 @@
-// The chosen cut in two phases: the least weight, by branching on a route's edges under a bound from packed routes;
-// then the list, edge by edge.
+// The chosen cut in two phases: the least weight, by branching on an unordered route's edges under a bound from
+// packed ones; then the list, edge by edge.
 #include <algorithm>
-#include <numeric>
 
-#include "plain.hpp"
+#include "plain_route.hpp"
 
 namespace plain {
 namespace {
-
-struct Path {
-    unsigned length = 0;
-    std::uint16_t edges[most_nodes];
-};
 
 struct Bound {
     std::uint64_t total = 0;
@@ -24,31 +18,13 @@ struct Found {
     Cut cut;
 };
 
-// The edges to each node, in rising order.
-class Lists {
-public:
-    explicit Lists(const Graph &graph) {
-        for (unsigned i = 0; i < graph.edge_count; ++i) ++start_[graph.edges[i].to + 1];
-        std::partial_sum(start_, start_ + graph.node_count + 1, start_);
-        std::uint16_t filled[most_nodes] = {};
-        for (unsigned i = 0; i < graph.edge_count; ++i) {
-            const unsigned node = graph.edges[i].to;
-            edges_[start_[node] + filled[node]++] = static_cast<std::uint16_t>(i);
-        }
-    }
-
-    const std::uint16_t *begin(unsigned node) const { return edges_ + start_[node]; }
-    const std::uint16_t *end(unsigned node) const { return edges_ + start_[node + 1]; }
-
-private:
-    std::uint16_t start_[most_nodes + 1] = {}, edges_[most_edges];
-};
-
 class Search {
 public:
-    Search(const Graph &graph, std::uint32_t open) : graph_(graph), in_(graph) { sort_by_distance(open); }
+    Search(const Graph &graph, const Fits &fits, std::uint32_t open) : graph_(graph), routes_(graph, fits) {
+        sort_by_distance(open);
+    }
 
-    Cut chosen() const {
+    Cut chosen() {
         std::uint64_t all = 0;
         for (unsigned i = 0; i < graph_.edge_count; ++i) all += graph_.edges[i].weight;
         Cut best = least({}, all).cut;
@@ -71,29 +47,6 @@ public:
     }
 
 private:
-    // Finds a route with the fewest edges among those with something left, from its end. Its length; 0 where there
-    // is none.
-    unsigned find(const Order &order, const std::uint16_t *left, Path &path) const {
-        std::uint16_t via[most_nodes], queue[most_nodes];
-        std::fill(via, via + graph_.node_count, none);
-        unsigned head = 0, tail = 0;
-        queue[tail++] = order.second;
-        while (head < tail && via[order.first] == none) {
-            const unsigned node = queue[head++];
-            for (const std::uint16_t *e = in_.begin(node); e != in_.end(node); ++e) {
-                const std::uint16_t from = graph_.edges[*e].from;
-                if (left[*e] == 0 || via[from] != none || from == order.second) continue;
-                via[from] = *e;
-                queue[tail++] = from;
-            }
-        }
-        path.length = 0;
-        if (via[order.first] == none) return 0;
-        for (unsigned node = order.first; node != order.second; node = graph_.edges[via[node]].to)
-            path.edges[path.length++] = via[node];
-        return path.length;
-    }
-
     // Short orders first: they leave the bound the fewest edges to choose from.
     void sort_by_distance(std::uint32_t open) {
         unsigned distance[most_orders];
@@ -102,22 +55,22 @@ private:
         std::fill(left, left + graph_.edge_count, std::uint16_t{1});
         for (unsigned i = 0; i < graph_.order_count; ++i) {
             if (!(open >> i & 1)) continue;
-            distance[i] = find(graph_.orders[i], left, path);
+            distance[i] = routes_.shortest(graph_.orders[i], left, path);
             near_[near_count_++] = i;
         }
         std::stable_sort(near_, near_ + near_count_,
                          [&](unsigned a, unsigned b) { return distance[a] < distance[b]; });
     }
 
-    // What any cut must still spend: routes are packed as long as no edge bears more than its weight.
-    Bound bound(const Cut &cut, std::uint64_t allowance) const {
+    // What any cut must still spend: unordered routes are packed as long as no edge bears more than its weight.
+    Bound bound(const Cut &cut, std::uint64_t allowance) {
         Bound result;
         Path path;
         std::uint16_t *left = result.left;
         for (unsigned i = 0; i < graph_.edge_count; ++i) left[i] = cut.edges[i] ? 0 : graph_.edges[i].weight;
         for (unsigned i = 0; i < near_count_; ++i) {
             const Order &order = graph_.orders[near_[i]];
-            while (find(order, left, path) > 0) {
+            while (routes_.unordered(order, left, path) > 0) {
                 if (result.first.length == 0) result.first = path;
                 std::uint16_t pays = 65535;
                 for (unsigned p = 0; p < path.length; ++p) pays = std::min(pays, left[path.edges[p]]);
@@ -130,7 +83,7 @@ private:
     }
 
     // The lightest cut that contains this one and costs at most so much more.
-    Found least(const Cut &cut, std::uint64_t allowance) const {
+    Found least(const Cut &cut, std::uint64_t allowance) {
         Bound lower = bound(cut, allowance);
         Found best;
         if (lower.total > allowance) return best;
@@ -150,17 +103,16 @@ private:
         return best;
     }
 
-    static constexpr std::uint16_t none = 65535;
     const Graph &graph_;
-    Lists in_;
+    Routes routes_;
     unsigned near_[most_orders], near_count_ = 0;
 };
 
 }  // namespace
 
-Cut chosen(const Graph &graph, std::uint32_t open) {
+Cut chosen(const Graph &graph, const Fits &fits, std::uint32_t open) {
     if (open == 0) return {};
-    return Search(graph, open).chosen();
+    return Search(graph, fits, open).chosen();
 }
 
 }  // namespace plain

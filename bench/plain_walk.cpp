@@ -13,8 +13,6 @@ unsigned lowest(const Nodes &nodes) { return static_cast<unsigned>(nodes._Find_f
 // The lowest of those above this one, likewise.
 unsigned higher(const Nodes &nodes, unsigned node) { return static_cast<unsigned>(nodes._Find_next(node)); }
 
-bool within(const Nodes &part, const Nodes &whole) { return (part & ~whole).none(); }
-
 template <class Test>
 Nodes nodes_where(const Graph &graph, Test test) {
     Nodes nodes;
@@ -24,24 +22,6 @@ Nodes nodes_where(const Graph &graph, Test test) {
 }
 
 bool side_matches(unsigned kind, const Node &node) { return kind == 3 || kind == node.kind; }
-
-// For each node the nodes that some rule fits with it before them.
-std::vector<Nodes> fits_of(const Graph &graph) {
-    std::vector<Nodes> fits(graph.node_count), rights;
-    for (unsigned r = 0; r < graph.rule_count; ++r)
-        rights.push_back(
-            nodes_where(graph, [&](const Node &node) { return side_matches(graph.rules[r].right_kind, node); }));
-    for (unsigned p = 0; p < graph.node_count; ++p) {
-        const Node left = graph.nodes[p];
-        const Nodes close = nodes_where(graph, [&](const Node &node) { return node.address == left.address; });
-        for (unsigned r = 0; r < graph.rule_count; ++r) {
-            const Rule &rule = graph.rules[r];
-            const bool one_variable = rule.left_variable == 1 && rule.right_variable == 1;
-            if (side_matches(rule.left_kind, left)) fits[p] |= one_variable ? rights[r] & close : rights[r];
-        }
-    }
-    return fits;
-}
 
 // A node that a route can come to, and what is then ordered after the first.
 struct Pair {
@@ -53,7 +33,7 @@ constexpr unsigned most_rounds = most_nodes * most_nodes, most_pairs = most_node
 
 class Walk {
 public:
-    explicit Walk(const Graph &graph) : next_(graph.node_count), fits_(fits_of(graph)), least_(graph.node_count) {
+    Walk(const Graph &graph, const Fits &fits) : next_(graph.node_count), least_(graph.node_count), fits_(fits) {
         for (unsigned i = 0; i < graph.edge_count; ++i) next_[graph.edges[i].from].set(graph.edges[i].to);
     }
 
@@ -167,7 +147,8 @@ private:
         return false;
     }
 
-    std::vector<Nodes> next_, fits_, least_;
+    std::vector<Nodes> next_, least_;
+    const Fits &fits_;
     std::vector<Pair> pairs_;
     Nodes into_;
     unsigned last_ = 0;
@@ -176,8 +157,25 @@ private:
 
 }  // namespace
 
-std::uint32_t open_orders(const Graph &graph) {
-    Walk walk(graph);
+Fits fits_of(const Graph &graph) {
+    std::vector<Nodes> fits(graph.node_count), rights;
+    for (unsigned r = 0; r < graph.rule_count; ++r)
+        rights.push_back(
+            nodes_where(graph, [&](const Node &node) { return side_matches(graph.rules[r].right_kind, node); }));
+    for (unsigned p = 0; p < graph.node_count; ++p) {
+        const Node left = graph.nodes[p];
+        const Nodes close = nodes_where(graph, [&](const Node &node) { return node.address == left.address; });
+        for (unsigned r = 0; r < graph.rule_count; ++r) {
+            const Rule &rule = graph.rules[r];
+            const bool one_variable = rule.left_variable == 1 && rule.right_variable == 1;
+            if (side_matches(rule.left_kind, left)) fits[p] |= one_variable ? rights[r] & close : rights[r];
+        }
+    }
+    return fits;
+}
+
+std::uint32_t open_orders(const Graph &graph, const Fits &fits) {
+    Walk walk(graph, fits);
     std::uint32_t open = 0;
     for (unsigned i = 0; i < graph.order_count; ++i)
         if (walk.open(graph.orders[i].first, graph.orders[i].second)) open |= 1u << i;
@@ -185,7 +183,8 @@ std::uint32_t open_orders(const Graph &graph) {
 }
 
 std::vector<std::uint64_t> visits(const Graph &graph) {
-    Walk walk(graph);
+    const Fits fits = fits_of(graph);
+    Walk walk(graph, fits);
     std::vector<std::uint64_t> counts;
     for (unsigned first = 0; first < graph.node_count; ++first) {
         for (unsigned second = 0; second < graph.node_count; ++second) {

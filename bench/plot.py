@@ -65,7 +65,7 @@ def plot(rows, note):
     parts = [f'<svg xmlns="http://www.w3.org/2000/svg" viewBox="0 0 {WIDTH} {HEIGHT}" '
              'font-family="sans-serif" font-size="12">',
              f'<rect width="{WIDTH}" height="{HEIGHT}" fill="white"/>',
-             text(LEFT, TOP - 12, f"time of one run (solvers: one process){note}", "start")]
+             text(LEFT, TOP - 12, f"time of one run (solvers: all rounds){note}", "start")]
     parts += axes(x, y, powers, least, most)
     names_at = []
     for name, colour in SERIES:

@@ -1,10 +1,10 @@
 #!/usr/bin/env python3
 """Makes the table and the plot out of what `measure` told, with the solvers' times.
 
-    report.py RESULTS FOLDER LIMIT WHERE TABLE PLOT
+    report.py RESULTS FOLDER LIMIT WHERE TABLE PLOT ROWS...
 
-RESULTS is what `measure` printed, FOLDER where it wrote the programs, LIMIT the seconds that it gave a run of the
-library. WHERE says in words where ours ran.
+RESULTS is what `measure` printed, FOLDER where it wrote the requests, LIMIT the seconds that it gave a run of the
+library. WHERE says in words where ours ran. ROWS is the command that starts `rows`.
 """
 import csv
 import statistics
@@ -117,17 +117,23 @@ def stopped(rows):
     return ", ".join(f"{sum(column(rows, key))} of {name}" for name, key in kinds)
 
 
+def rounds(rows):
+    """How often each solver was started for one file."""
+    counts = {name: column(rows, name + " rounds") for name in SOLVERS}
+    return "; ".join(f"{name} median {statistics.median_low(c)}, most {max(c)}" for name, c in counts.items())
+
+
 def real_section(rows, limit):
     text = ["", "## Procedures of 400 to 512 nodes", "",
             "Each family with each of 1, 2, 4, 8, 16 and 32 orders and each kind of weights. Ask's times are for",
             "one order: the median of the files' medians, and the worst of all. Run was stopped after "
             f"{limit} s, a solver",
-            f"after {LIMITS['real']} s; such a call counts with that time. The solvers only get files with an open",
-            "order.", ""]
+            f"after {LIMITS['real']} s, all rounds together; such a call counts with that time. The solvers only",
+            "get files with an open order.", ""]
     text += head_of("family | files | ask median | worst | run median | worst | run/plain median | glpsol median "
                     "| glpsol/run median | least | cbc median | cbc/run median | least")
     text += [real_line(name, group) for name, group in groups(rows, "family")] + [real_line("all", rows)]
-    text += ["", f"Stopped: {stopped(rows)}. A solver was ahead in these:", ""]
+    text += ["", f"Rounds: {rounds(rows)}. Stopped: {stopped(rows)}. A solver was ahead in these:", ""]
     return text + (ahead(rows) or ["- none"])
 
 
@@ -138,15 +144,20 @@ def corpus_section(rows):
     text += [line(name, group) for name, group in groups(rows, "family")] + [line("all", rows), ""]
     text += head_of("weights | files | " + columns)
     text += [line(name, group) for name, group in groups(rows, "weights")]
-    return text + ["", f"Stopped, a solver after {LIMITS['corpus']} s: {stopped(rows)}."]
+    return text + ["", f"Rounds: {rounds(rows)}. Stopped, a solver after {LIMITS['corpus']} s: {stopped(rows)}."]
 
 
 def table(sets, base, limit, where):
     text = ["# Times of run and ask", "",
             "Made by `bench/run.sh`, from one run. Times are in milliseconds for one call.", "", where, "",
-            "The solvers get the same cut as an integer program, find its weight only (no tie rule), and are timed",
-            f"as processes; starting one costs {milliseconds(base['glpsol'])} ms (glpsol) and "
-            f"{milliseconds(base['cbc'])} ms (cbc) of that.", "",
+            "The solvers find the weight of the same cut (no tie rule) by an integer program: a variable for each",
+            "edge, and a row for each unordered route, which one of its edges at least must cut. There may be very",
+            "many such routes, so the program starts with a few: for each order one after the other, none over an",
+            "edge of those before, until there is no more. As long as a solution leaves unordered routes, rows for",
+            "such, found in the same way, are added, and the solver starts again: that is a round. Its time is",
+            "that of its processes, all rounds together; our search for rows isn't counted. Starting a process",
+            f"costs {milliseconds(base['glpsol'])} ms (glpsol) and {milliseconds(base['cbc'])} ms (cbc), in each "
+            "round.", "",
             "The plain version was fitted to the library: it takes routes in the library's order and drops the",
             "same edges from a branch, so that both search the same tree and the ratio is that of the code, not of",
             "the search. Its tables are as long as the file wants; the library's have room for 512 nodes, which is",
@@ -176,7 +187,7 @@ def main():
     results, folder, limit, where, table_path, plot_path = sys.argv[1:7]
     sets = read(results)
     solved = sets["corpus"] + sets["real"]
-    solve(solved, folder)
+    solve(solved, folder, sys.argv[7:])
     text = table(sets, trivial(folder), limit, where)
     print(text)
     with open(table_path, "w") as out:

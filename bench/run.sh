@@ -18,10 +18,12 @@ install_missing glpk-utils coinor-cbc python3 || { echo "packages could not be i
 
 ulimit -s 65536 # the plain version goes one call deeper for each edge of a cut it tries, with some KB for each
 
-mkdir -p "$build/programs"
+mkdir -p "$build/requests"
 $cxx -std=c++17 -O3 -DNDEBUG -Wall -Wextra -I ../include -I "$host" -o "$build/measure" \
-    measure.cpp program.cpp corpus.cpp shapes.cpp classics.cpp plain.cpp plain_read.cpp plain_walk.cpp plain_cut.cpp \
-    "$host/generate.cpp" "$host/reference_read.cpp" "$archive"
+    measure.cpp corpus.cpp shapes.cpp classics.cpp plain.cpp plain_read.cpp plain_walk.cpp plain_route.cpp \
+    plain_cut.cpp "$host/generate.cpp" "$host/reference_read.cpp" "$archive"
+$cxx -std=c++17 -O3 -DNDEBUG -Wall -Wextra -I ../include -o "$build/rows" \
+    rows.cpp plain_read.cpp plain_walk.cpp plain_route.cpp
 $cxx -std=c++17 -O3 -DNDEBUG -Wall -Wextra -I ../include -I "$host" -o "$build/visits" \
     visits.cpp shapes.cpp classics.cpp plain_walk.cpp "$host/generate.cpp"
 
@@ -33,8 +35,9 @@ else
 too long, and the solvers' ratios too small, by the emulator's factor."
 fi
 
-"${emulator[@]}" "$build/measure" "$seed" "$build/programs" "$limit" >"$build/results.csv"
-python3 -B report.py "$build/results.csv" "$build/programs" "$limit" "$where" TIMES.md times.svg
+"${emulator[@]}" "$build/measure" "$seed" "$build/requests" "$limit" >"$build/results.csv"
+python3 -B report.py "$build/results.csv" "$build/requests" "$limit" "$where" TIMES.md times.svg \
+    "${emulator[@]}" "$build/rows"
 
 cat >VISITS.md <<END
 Visits of the walk for every ordered pair of nodes of drawn graphs. Made by \`bench/run.sh $seed\`.

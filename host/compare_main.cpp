@@ -1,6 +1,6 @@
 // Compares library and reference on generated files, group by group, and says how many groups passed.
 //
-//     compare                the gate's measure: every tiny file, and 25,000 from two fixed seeds and a fresh one
+//     compare                the gate's measure: every tiny file, and 26,000 from two fixed seeds and a fresh one
 //     compare FACTOR         so many times as many files from seeds
 //     compare FACTOR SEED    the same, with this seed alone
 #include <algorithm>

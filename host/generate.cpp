@@ -2,7 +2,6 @@
 #include "generate.hpp"
 
 #include <algorithm>
-#include <set>
 
 namespace generate {
 
@@ -29,20 +28,6 @@ const std::vector<std::vector<Rule>> rule_sets = {
     {{1, 1, 3, 0}, {3, 0, 0, 1}},                              // loads acquire, stores release
 };
 
-std::vector<Rule> rules(Random &random) {
-    std::vector<Rule> rules;
-    if (random.chance(50)) {
-        rules = rule_sets[random.below(rule_sets.size())];
-    } else {
-        for (unsigned i = random.below(5); i > 0; --i)
-            rules.push_back(legal_rules()[random.below(legal_rules().size())]);
-    }
-    if (!random.chance(2)) rules.push_back({wildcard, 0, full_fence, 0});
-    if (!random.chance(2)) rules.push_back({full_fence, 0, wildcard, 0});
-    shuffle(random, rules);
-    return rules;
-}
-
 std::vector<Node> nodes(Random &random, unsigned count) {
     static const unsigned addresses[] = {0, 255, 7, 1, 128};
     const unsigned used = random.between(1, 5), fences = random.below(4) * 10;
@@ -61,16 +46,6 @@ void weigh(Random &random, std::vector<Edge> &edges) {
     const unsigned high = highest[random.below(6)];
     const bool heavy = random.chance(5);
     for (Edge &edge : edges) edge.weight = heavy ? 65535 - random.below(2) : random.between(1, high);
-}
-
-using Pairs = std::set<std::pair<unsigned, unsigned>>;
-
-std::vector<Edge> edges_of(Random &random, const Pairs &pairs) {
-    std::vector<Edge> edges;
-    for (auto [from, to] : pairs) edges.push_back({from, to, 1});
-    if (random.chance(70)) shuffle(random, edges);
-    weigh(random, edges);
-    return edges;
 }
 
 Pairs straight(unsigned n) {
@@ -124,6 +99,28 @@ const std::vector<Rule> &legal_rules() {
         return legal;
     }();
     return all;
+}
+
+std::vector<Rule> rules(Random &random) {
+    std::vector<Rule> rules;
+    if (random.chance(50)) {
+        rules = rule_sets[random.below(rule_sets.size())];
+    } else {
+        for (unsigned i = random.below(5); i > 0; --i)
+            rules.push_back(legal_rules()[random.below(legal_rules().size())]);
+    }
+    if (!random.chance(2)) rules.push_back({wildcard, 0, full_fence, 0});
+    if (!random.chance(2)) rules.push_back({full_fence, 0, wildcard, 0});
+    shuffle(random, rules);
+    return rules;
+}
+
+std::vector<Edge> edges_of(Random &random, const Pairs &pairs) {
+    std::vector<Edge> edges;
+    for (auto [from, to] : pairs) edges.push_back({from, to, 1});
+    if (random.chance(70)) shuffle(random, edges);
+    weigh(random, edges);
+    return edges;
 }
 
 std::vector<Order> orders(Random &random, unsigned nodes, unsigned most, unsigned apart) {

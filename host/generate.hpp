@@ -2,6 +2,8 @@
 #ifndef GENERATE_HPP
 #define GENERATE_HPP
 
+#include <set>
+
 #include "reference.hpp"
 
 namespace generate {
@@ -34,6 +36,11 @@ Request large(Random &random);
 // Ladders of 100 to 512 nodes with many diamonds, and up to 32 orders over short stretches of them.
 Request branching(Random &random);
 
+// Several ways between two nodes, again and again, and orders over a few of these stretches. Some ways have a
+// fence, or a store that orders what lies behind a load of its address, so that an open order often has routes that
+// order its ends beside those that don't.
+Request detours(Random &random);
+
 // Counts at their limits, or one below or beyond.
 Request at_limits(Random &random);
 
@@ -49,6 +56,13 @@ Bytes damaged(Random &random, Bytes file);
 
 // Marks and bytes in any order.
 Bytes soup(Random &random);
+
+// Some rules, nearly always with the two that fences need.
+std::vector<Rule> rules(Random &random);
+
+// Edges between these nodes, mostly shuffled, with weights of some range.
+using Pairs = std::set<std::pair<unsigned, unsigned>>;
+std::vector<Edge> edges_of(Random &random, const Pairs &pairs);
 
 // Other orders over the nodes below `nodes`, the numbers of their two nodes at most so far apart.
 std::vector<Order> orders(Random &random, unsigned nodes, unsigned most, unsigned apart = most_nodes);

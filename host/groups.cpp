@@ -109,6 +109,9 @@ void large_files(Comparison &comparison, Random &random) {
 void branching_files(Comparison &comparison, Random &random) {
     compare_file(comparison, random, written(generate::branching(random)));
 }
+void detour_files(Comparison &comparison, Random &random) {
+    compare_file(comparison, random, written(generate::detours(random)));
+}
 void limit_files(Comparison &comparison, Random &random) {
     compare_file(comparison, random, written(generate::at_limits(random)));
 }
@@ -133,6 +136,7 @@ const std::vector<Group> &groups() {
         {"small", small_files, 2600},
         {"large", large_files, 800},
         {"branching", branching_files, 400},
+        {"detours", detour_files, 400},
         {"limits", limit_files, 250},
         {"spoiled", spoiled_files, 1200},
         {"damaged", damaged_files, 1200},

@@ -10,20 +10,19 @@ namespace {
 
 constexpr std::size_t few = 14;  // with so many edges that matter, every set is tried
 
-// The routes of the open orders, each as the set of its edges that matter. An edge on no such route can't be in a
-// cut of least weight, since without it the cut would be lighter.
+// The routes that a cut must meet, those that do not order their order's ends, each as the set of its edges that
+// matter. An edge on no such route can't be in a cut of least weight, since without it the cut would be lighter.
 struct Problem {
     std::vector<unsigned> edges;           // that matter: rising edge numbers
     std::vector<std::vector<bool>> meets;  // meets[r][i]: route r runs over edges[i]
     std::vector<Number> weights;
 };
 
-std::vector<Route> open_routes(const Request &request) {
+std::vector<Route> unordered_routes(const Request &request) {
     std::vector<Route> all;
-    for (const Order &order : request.orders) {
-        if (first_unordered(request, order).empty()) continue;
-        for (Route &route : routes(request, order)) all.push_back(std::move(route));
-    }
+    for (const Order &order : request.orders)
+        for (Route &route : routes(request, order))
+            if (!orders_its_ends(request, route)) all.push_back(std::move(route));
     return all;
 }
 
@@ -53,7 +52,7 @@ std::vector<unsigned> edges_that_matter(const Request &request, const std::vecto
 }
 
 Problem problem_of(const Request &request) {
-    const std::vector<Route> all = open_routes(request);
+    const std::vector<Route> all = unordered_routes(request);
     const std::vector<std::vector<bool>> on = edges_on(request, all);
     Problem problem;
     problem.edges = edges_that_matter(request, on);

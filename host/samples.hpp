@@ -77,6 +77,34 @@ inline Request doubtful(unsigned n) {
     return request;
 }
 
+// The shortest route has a fence. The other ways fork n times, over a store to one address or to another, and then
+// pass loads of the second ones: only the way over all the first ones leaves the goal unordered. Loads of these stand
+// aside, so that 2^i sets of what is ordered come to the i-th meeting, none within another. One edge of that way has
+// weight 2, the others 5.
+inline Request forks(unsigned n) {
+    Request request{{{store, 255}, {full_fence, 0}, {load, 254}}, {{0, 1, 5}, {1, 2, 5}}, fence_rules, {{0, 2}}};
+    for (const Rule &rule : {Rule{0, 1, 0, 2}, Rule{1, 1, 1, 2}, Rule{0, 1, 1, 1}}) request.rules.push_back(rule);
+    unsigned at = 0;
+    const auto add = [&](const Node &node) {
+        request.nodes.push_back(node);
+        return static_cast<unsigned>(request.nodes.size() - 1);
+    };
+    for (unsigned i = 0; i < n; ++i) {
+        const unsigned first = add({store, 2 * i}), second = add({store, 2 * i + 1}), meeting = add({load, 253});
+        request.edges.push_back({at, first, i + 1 == n ? 2u : 5u});
+        for (auto [from, to] : {std::pair{at, second}, {first, meeting}, {second, meeting}})
+            request.edges.push_back({from, to, 5});
+        at = meeting;
+        add({load, 2 * i});
+    }
+    for (unsigned i = 0; i < n; ++i) {
+        request.edges.push_back({at, add({load, 2 * i + 1}), 5});
+        at = request.edges.back().to;
+    }
+    request.edges.push_back({at, 2, 5});
+    return request;
+}
+
 }  // namespace samples
 
 #endif

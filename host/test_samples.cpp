@@ -92,9 +92,25 @@ TEST_CASE("P5: without a route nothing is open") {
     check_cut(request, {}, 0);
 }
 
-TEST_CASE("P6: the diamond's cut is {0, 2}") { check_cut(diamond(), {0, 2}, 2); }
+TEST_CASE("P6: the diamond's cut is {0}: its other route has a fence") { check_cut(diamond(), {0}, 1); }
 
 TEST_CASE("P7: the loop's cut is {0}") { check_cut(loop(), {0}, 1); }
+
+TEST_CASE("a route that a fence orders is left alone: weight 2, where all routes of the order would take 32") {
+    // From 1 one edge leads straight to the end, three others there over the fence and node 3.
+    Request request{{{store, 1}, {store, 2}, {full_fence, 0}, {store, 3}, {load, 4}},
+                    {{0, 1, 50}, {1, 2, 40}, {2, 3, 40}, {3, 4, 30}, {1, 4, 2}},
+                    fence_rules,
+                    {{0, 4}}};
+    check_cut(request, {4}, 2);
+    request.orders.push_back({3, 4});  // behind the fence, so it takes the same edges as all routes would
+    check_cut(request, {3, 4}, 32);
+}
+
+TEST_CASE("the one unordered route of many that meet is found, however many differ in what they order") {
+    // With 8 forks there are over 1,000 pairs of a node and such a set; beyond 512 the library walks.
+    for (unsigned n : {1, 3, 8}) check_cut(forks(n), {4 * n - 2}, 2);
+}
 
 TEST_CASE("P8: no nodes, 14 bytes out") {
     check_cut(nothing(), {}, 0);

@@ -85,9 +85,11 @@ TEST_CASE("no call takes more stack than fence.h says") {
     for (unsigned i = 0; i < 100; ++i) measure(generate::small(random), deepest);
     for (unsigned i = 0; i < 20; ++i) measure(generate::large(random), deepest);
     for (unsigned i = 0; i < 20; ++i) measure(generate::branching(random), deepest);
+    for (unsigned i = 0; i < 20; ++i) measure(generate::detours(random), deepest);
     for (unsigned n : {255, 510}) measure(star(n), deepest);
     measure(deep(), deepest);
     measure(doubtful(504), deepest);
+    measure(forks(100), deepest);
     std::printf("deepest stack met: run %zu, ask %zu, strip %zu bytes\n", deepest.run, deepest.ask, deepest.strip);
     CHECK(deepest.run < FENCE_RUN_STACK);
     CHECK(deepest.ask < FENCE_ASK_STACK);

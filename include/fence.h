@@ -94,9 +94,9 @@ extern "C" {
 
 /*
  * Bytes of stack that a call takes at most, for a thread that has a small one. Run's search goes one level
- * deeper for each edge of the cut it tries and takes 784 bytes for it; the walk of run and ask takes 208 for
- * each node of a route. Measured, the deepest calls leave a tenth of run's number free, a seventh of ask's and
- * a third of strip's.
+ * deeper for each edge of the cut it tries and takes 560 bytes for it; the walk of run and ask takes 208 for
+ * each node of a route. Measured, the deepest calls leave a quarter of run's number free, a seventh of ask's
+ * and a third of strip's.
  */
 #define FENCE_RUN_STACK 1048576
 #define FENCE_ASK_STACK 262144
@@ -119,11 +119,13 @@ typedef struct {
 } fence_route;
 
 /*
- * Writes the file with fences added to `out`: those of the least weight that separate the two nodes of
- * each order that isn't held; of several such sets of edges, the one whose rising list of numbers comes
- * first. Fence nodes follow the old nodes. A cut edge leads to its fence, at its own place, and an edge of
- * the same weight from there on is added at the end: 12 bytes more for each fence. Where all orders are
- * held the file is copied; so a second run changes nothing.
+ * Writes the file with fences added to `out`: on the edges of least weight such that each route of an order
+ * that doesn't keep its two nodes in order goes over one of them; of several such sets of edges, on the one
+ * whose rising list of numbers comes first. A route that keeps them in order, by the rules or by a fence that
+ * stands on it, needs none. No lighter set of edges would leave all orders held. Fence nodes follow the old
+ * nodes. A cut edge leads to its fence, at its own place, and an edge of the same weight from there on is
+ * added at the end: 12 bytes more for each fence. Where all orders are held the file is copied; so a second
+ * run changes nothing.
  * Answers: 0, 1 to 7, 9, 11.
  */
 fence_report fence_run(const uint8_t *file, size_t file_len, uint8_t *out, size_t out_len);

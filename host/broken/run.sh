@@ -15,12 +15,12 @@ object() { echo "$work/$(basename "$1" .cpp).o"; }
 
 # The sound half: reference, generator, comparison.
 mkdir "$work/sound"
-for name in reference{,_read,_held,_cut} library generate spoil damage compare groups compare_main; do
+for name in reference{,_read,_held,_cut} library generate detours spoil damage compare groups compare_main; do
     compile -c "$host/$name.cpp" -o "$work/sound/$name.o" || exit 1
 done
 
 # The half that gets broken, under other names.
-sources=("$host"/reference{,_read,_held,_cut}.cpp "$host"/../bench/plain{,_read,_walk,_cut}.cpp)
+sources=("$host"/reference{,_read,_held,_cut}.cpp "$host"/../bench/plain{,_read,_walk,_route,_cut}.cpp)
 for source in "${sources[@]}"; do compile -Dreference=broken -c "$source" -o "$(object "$source")" || exit 1; done
 compile -Dreference=broken -c shim.cpp -o "$work/shim_reference.o" || exit 1
 compile -Dreference=broken -DPLAIN -c shim.cpp -o "$work/shim_plain.o" || exit 1

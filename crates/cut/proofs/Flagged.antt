@@ -12,7 +12,7 @@ use Rattle.graph.specs.Cut.{Rising, First, Best, total}
 use Rattle.graph.specs.Held.{Absent}
 use Rattle.graph.specs.Limits.{most-edges}
 use Rattle.graph.specs.Value.{rising}
-use Rattle.route.specs.Way.{Out}
+use Rattle.walked.specs.Unordered.{Out}
 
 -- ---- from flags to a list. The first flag is that of edge n
 

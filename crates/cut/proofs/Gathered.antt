@@ -16,7 +16,7 @@ use Rattle.cut.specs.Given.{EndsOf, Gathered, swapped, Keeps}
 use Rattle.lightest.specs.Sets.{Has}
 use Rattle.graph.specs.Graph.{order}
 use Rattle.graph.specs.Limits.{most-orders}
-use Rattle.route.specs.Way.{Out}
+use Rattle.walked.specs.Unordered.{Out}
 use Rattle.cut.proofs.Drawn.{set-old}
 use Rattle.graph.proofs.Splits.{true-false}
 use Rattle.route.proofs.Ways.{at-same}

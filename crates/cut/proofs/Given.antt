@@ -1,8 +1,8 @@
 -- What the search is given of a graph by value, and what its answer says of that graph.
 -- Assumes nothing.
 use mathlib.Core.Bool.{Bool, true, false}
-use mathlib.Core.List.{List, List·Memᴰ}
-use mathlib.Core.Logic.{_⊎_, inl, inr, _≢_}
+use mathlib.Core.List.{List}
+use mathlib.Core.Logic.{_⊎_, inl, inr}
 use mathlib.Core.Path.{_≡_, refl, sym, ap, _∙_, subst⁻¹}
 use Prim.Native.Nat.{ℕ, _<_, _≤_}
 use native.Mathlib.Omega.{arith}
@@ -20,6 +20,7 @@ use Rattle.graph.specs.Held.{Held, Open}
 use Rattle.graph.specs.Limits.{most-edges, most-orders}
 use Rattle.graph.specs.Value.{graphOf, rulesOf, ordersOf, Sized, Told}
 use Rattle.route.specs.Way.{Linked, Net}
+use Rattle.words.specs.Words.{Ruling}
 use Rattle.cut.proofs.Drawn.{Drawn, lent, lent-long, lent-at, copied-drawn, drawn-net}
 use Rattle.graph.proofs.Splits.{bool}
 use Rattle.cut.proofs.Separated.{Asks, chosen-of, weight-of}
@@ -29,7 +30,7 @@ use Rattle.graph.proofs.Members.{at-mem, mem-at}
 use Rattle.graph.specs.declared.Graph as Value
 
 module _ (g : Value.Graph) (sized : Sized g) where
-  module _ (orderly : Orderly (g .«node_count») (ordersOf g)) where
+  module _ (orderly : Orderly (length ((graphOf g) .nodes)) (ordersOf g)) where
     module _ (lo : length (g .orders) ≡ most-orders) (flags : List Bool) (us vs : List ℕ) (n : ℕ) (y : Gathered (g .orders) flags us vs n (g .«order_count»)) where
       orders-long : length (ordersOf g) ≡ g .«order_count»
       orders-long = length-take-le (g .«order_count») (g .orders) (omega (arith, lo, sized .orders))
@@ -43,16 +44,13 @@ module _ (g : Value.Graph) (sized : Sized g) where
       seconds-long : length (lent n vs) ≡ n
       seconds-long = lent-long n vs (omega (arith, pairs-few, y .sizes .1))
 
-      apart-ends : (o : Order) → List·Memᴰ o (ordersOf g) → o .first ≢ o .second
-      apart-ends o m = let at = mem-at no-order (ordersOf g) m in subst⁻¹ (λ (x : Order). x .first ≢ x .second) (at .2) (orderly .ends (at .0) (at .1) .2)
-
       pub given-differ : Differ us vs n
       given-differ k h =
           let e = y .each k h in
           let s = orderly .ends (e .0) (omega (arith, e .1, orders-long)) in
           let p = e .3 .0 ∙ ap (λ (x : Order). x .first) (sym (order-at g (e .0) (e .1))) in
           let q = e .3 .1 ∙ ap (λ (x : Order). x .second) (sym (order-at g (e .0) (e .1))) in
-          (omega (arith, p, s .0, sized .nodes), omega (arith, q, s .1, sized .nodes), λ z. s .2 (sym p ∙ z ∙ q))
+          (omega (arith, p, s .0, nodes-few g sized), omega (arith, q, s .1, nodes-few g sized), λ z. s .2 (sym p ∙ z ∙ q))
 
       given-asks : Told g flags → Asks (graphOf g) (rulesOf g) (ordersOf g) (lent n us) (lent n vs)
       given-asks told = record {
@@ -88,10 +86,11 @@ module _ (g : Value.Graph) (sized : Sized g) where
         pub given-net : Net (lent (g .«edge_count») xs) (lent (g .«edge_count») ys)
         given-net = drawn-net (graphOf g) (lent (g .«edge_count») xs) (lent (g .«edge_count») ys) (lent (g .«edge_count») ws) sound (nodes-few g sized) edges-few drawn
 
-        pub given-known : (links : List ℕ) → Linked (lent (g .«edge_count») ys) links 0 → Known (lent (g .«edge_count») xs) (lent (g .«edge_count») ys) links (lent (g .«edge_count») ws) (lent n us) (lent n vs)
-        given-known links linked = record {
+        pub given-known : (ins outs : List ℕ) → Linked (lent (g .«edge_count») ys) ins 0 → Linked (lent (g .«edge_count») xs) outs 0 → Known (lent (g .«edge_count») xs) (lent (g .«edge_count») ys) ins outs (lent (g .«edge_count») ws) (lent n us) (lent n vs)
+        given-known ins outs into onward = record {
           net = given-net;
-          linked = linked;
+          into = into;
+          onward = onward;
           weights = drawn .long .2 ∙ sym (drawn .long .0);
           some = λ e h. let l : e < length (graphOf g .edges) = omega (arith, drawn .long .2) in omega (arith, drawn .each e l .2, sound .ends e l .2);
           orders = omega (arith, firsts-long, pairs-few);
@@ -103,11 +102,11 @@ module _ (g : Value.Graph) (sized : Sized g) where
               (omega (arith, p, d .0), omega (arith, q, d .1), λ z. d .2 (sym p ∙ z ∙ q));
         }
 
-        pub given-chosen : Told g flags → (r : Cut) → Made (lent (g .«edge_count») ws) (cutOf r)
-            → Least (lent (g .«edge_count») ws) (Apart (lent (g .«edge_count») xs) (lent (g .«edge_count») ys) (lent n us) (lent n vs)) (edgesOf (r .chosen)) → Chosen g r
-        given-chosen told r made least = record {
-          best = chosen-of (graphOf g) (rulesOf g) (ordersOf g) sound edges-few _ _ _ _ _ drawn (given-asks told) apart-ends (edgesOf (r .chosen)) (made .edges) least;
-          sum = sym (made .sum) ∙ weight-of (graphOf g) (rulesOf g) (ordersOf g) sound edges-few _ _ _ _ _ drawn (given-asks told) apart-ends (edgesOf (r .chosen));
+        pub given-chosen : (fits : List ℕ) → Ruling (graphOf g) (rulesOf g) fits → Told g flags → (r : Cut) → Made (lent (g .«edge_count») ws) (cutOf r)
+            → Least (lent (g .«edge_count») ws) (Apart (lent (g .«edge_count») xs) (lent (g .«edge_count») ys) fits (lent n us) (lent n vs)) (edgesOf (r .chosen)) → Chosen g r
+        given-chosen fits ruling told r made least = record {
+          best = chosen-of (graphOf g) (rulesOf g) (ordersOf g) sound edges-few _ _ _ _ _ fits drawn (given-asks told) ruling (edgesOf (r .chosen)) (made .edges) least;
+          sum = sym (made .sum) ∙ weight-of (graphOf g) (rulesOf g) (ordersOf g) sound edges-few _ _ _ _ _ fits drawn (given-asks told) ruling (edgesOf (r .chosen));
           small = made .small;
           long = made .edges .long;
           below = λ e h. omega (arith, made .edges .known e h .0, lent-long (g .«edge_count») ws (omega (arith, c .sizes .2, sized .edges)));

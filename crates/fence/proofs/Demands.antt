@@ -74,7 +74,7 @@ names-of : (q : Request) → Proper q → AllName (length (q .graph .nodes)) (q 
 names-of q p o m = let at = mem-at no-order (q .orders) m in let e = p .orderly .ends (at .0) (at .1) in subst⁻¹ (Names (length (q .graph .nodes))) (at .2) (e .0, e .1)
 
 pub demand-2 : {s : List ℕ} {q : Request} {c t : List ℕ} → Run s q c t → Demand2 s q c t
-demand-2 {s} {q} {c} {t} x = record { only = D .only; again = again; held = D .held; off = off }
+demand-2 {s} {q} {c} {t} x = record { only = D .only; again = again; held = D .held; lightest = D .lightest; off = off }
   where
     P : Proper q
     P = x .reads .proper

@@ -3,7 +3,7 @@
 use mathlib.Core.Bool.{Bool}
 use mathlib.Core.List.{List}
 use mathlib.Core.Logic.{inl, inr}
-use mathlib.Core.Path.{_∙_, _≡_, ap, subst, subst⁻¹, sym}
+use mathlib.Core.Path.{_∙_, _≡_, ap, subst⁻¹, sym}
 use Prim.Native.Nat.{_+_, _<_, _≤_, ℕ}
 use native.Mathlib.Omega.{arith}
 use lib.ListN.{length}
@@ -17,7 +17,6 @@ use Rattle.fencing.specs.Kept.{Kept}
 use Rattle.lightest.specs.declared.Cut.{Cut}
 use Rattle.lightest.specs.Made.{edgesOf}
 use Rattle.graph.specs.Cut.{ChosenCut, weight}
-use Rattle.graph.specs.Graph.{Orderly}
 use Rattle.graph.specs.Limits.{most-edges, most-nodes}
 use Rattle.graph.specs.Value.{Roomy, Sized, graphOf, ordersOf, rising, rulesOf}
 use Rattle.graph.specs.Written.{written}
@@ -29,9 +28,6 @@ use Rattle.graph.proofs.Strip.{place}
 use Rattle.graph.proofs.Value.{edge-total, node-total}
 use Rattle.writing.proofs.Writing.{bytes-size}
 use Rattle.graph.specs.declared.Graph as Value
-
-pub ready-orderly : (g : Value.Graph) → Ready g → Orderly (g .«node_count») (ordersOf g)
-ready-orderly g ready = subst (λ (n : ℕ). Orderly n (ordersOf g)) (node-total g (ready .sized) (ready .roomy)) (ready .proper .orderly)
 
 module _ (g : Value.Graph) (ready : Ready g) (cut : Cut) (best : Chosen g cut) (flags : List Bool) (is : flags ≡ edgesOf (cut .chosen)) (k : ℕ) (hk : k ≡ length (rising 0 flags)) (o : List ℕ) where
   nodes : length ((graphOf g) .nodes) ≡ g .«node_count»

@@ -8,7 +8,7 @@ use Rattle.fence.specs.declared.Report.{Report}
 use Rattle.graph.specs.declared.Order.{Order}
 use Rattle.graph.specs.declared.Rule.{Rule}
 use Rattle.fence.specs.Outcome.{Reads, RunOutcome, StripOutcome, fencedFile, over, withGraph}
-use Rattle.graph.specs.Cut.{ChosenCut, weight}
+use Rattle.graph.specs.Cut.{Rising, ChosenCut, weight}
 use Rattle.graph.specs.Demands.{AskedIn}
 use Rattle.graph.specs.Graph.{Graph}
 use Rattle.graph.specs.Held.{Held}
@@ -33,6 +33,8 @@ pub record Demand2 (s : List ℕ) (q : Request) (c t : List ℕ) : Type 0 where
   pub again : Reads t (withGraph q (written (q .graph) c))
   -- "In the graph written every asked order is held."
   pub held : (o : Order) → List·Memᴰ o (q .orders) → Held (written (q .graph) c) (q .rules) o
+  -- "no lighter set of edges, each given a full fence, leaves all asked orders held"
+  pub lightest : (d : List ℕ) → Rising 0 (length (q .graph .edges)) d → ((o : Order) → List·Memᴰ o (q .orders) → Held (written (q .graph) d) (q .rules) o) → weight (q .graph) c ≤ weight (q .graph) d
   -- "Taking the fences off gives the earlier graph's bytes."
   pub off : (before after : List ℕ) (r : Report) → length s ≤ length before → StripOutcome t (length (q .graph .nodes)) before r after
       → (r ≡ record { answer = 0; place = 0; fences = length c; weight = weight (q .graph) c; length = length s }) × (after ≡ over before s)

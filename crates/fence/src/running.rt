@@ -17,7 +17,7 @@ pub fn run(g: Graph, out: &mut [u8]) -> Report
     requires { ⌜ Ready g ⌝ }
     ensures { λ r. ⌜ ((s : List ℕ) → Reads s (requestIn g) → RunOutcome s (now (out .entry)) r (now (out .exit))) ⌝ }
 {
-    let cut = cut::chosen_cut(g, walk::open_orders(g));
+    let cut = cut::chosen_cut(g);
     let chosen = cut.flags();
     let k = count(chosen);
     if Graph::NODES < g.node_count + k {

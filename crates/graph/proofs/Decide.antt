@@ -13,31 +13,24 @@ use Rattle.graph.specs.declared.Rule.{Rule}
 use Rattle.graph.specs.Ask.{along, Asked, is-held, is-open, ShownWithout}
 use Rattle.graph.specs.Cut.{Rising, First, Best, Separates, weight, ChosenCut}
 use Rattle.graph.specs.Graph.{Graph, Sound, edge}
-use Rattle.graph.specs.Held.{HeldWithout, Open}
+use Rattle.graph.specs.Held.{HeldWithout}
 use Rattle.graph.proofs.Lists.{everySet, everySet-so, everySet-back}
 use Rattle.graph.proofs.Ordered.{ordersb, says-orders}
 use Rattle.graph.proofs.Route.{everyRoute, routeb, says-everyRoute, says-route}
 use Rattle.graph.proofs.Says.{Says, says-T, says-yes, says-no, says-and, says-or, says-not, implies, says-implies, says-iff, decide, stable, says-eq, says-lt, says-le, everyb, someBelow, says-below, eqs, says-eqs, says-every}
 
 module _ (g : Graph) (rules : List Rule) where
-  abbrev pub heldb : ℕ → ℕ → Bool
-  heldb a b = everyRoute g [] a b (λ between. ordersb g rules a between b)
+  abbrev pub heldb : List ℕ → ℕ → ℕ → Bool
+  heldb c a b = everyRoute g c a b (λ between. ordersb g rules a between b)
 
-  pub says-held : Sound g → (a b : ℕ) → Says (heldb a b) (HeldWithout g rules [] a b)
-  says-held sound a b = says-everyRoute g [] sound a b (λ between. says-orders g rules a between b)
-
-  abbrev pub openb : Order → Bool
-  openb o = not (heldb (o .first) (o .second))
-
-  pub says-open : Sound g → (o : Order) → Says (openb o) (Open g rules o)
-  says-open sound o = says-not (says-held sound (o .first) (o .second))
+  pub says-held : Sound g → (c : List ℕ) (a b : ℕ) → Says (heldb c a b) (HeldWithout g rules c a b)
+  says-held sound c a b = says-everyRoute g c sound a b (λ between. says-orders g rules a between b)
 
   abbrev pub separatesb : List Order → List ℕ → Bool
-  separatesb orders c = everyb (λ o. implies (openb o) (everyRoute g c (o .first) (o .second) (λ between. false))) orders
+  separatesb orders c = everyb (λ o. heldb c (o .first) (o .second)) orders
 
   pub says-separates : Sound g → (orders : List Order) (c : List ℕ) → Says (separatesb orders c) (Separates g rules orders c)
-  says-separates sound orders c =
-      says-every (λ o. says-implies (says-open sound o) (says-everyRoute g c sound (o .first) (o .second) (λ between. says-no (λ z. z)))) orders
+  says-separates sound orders c = says-every (λ o. says-held sound c (o .first) (o .second)) orders
 
 abbrev pub risingb : ℕ → ℕ → List ℕ → Bool
 risingb lo m [] = true
@@ -137,11 +130,11 @@ module _ (g : Graph) (rules : List Rule) where
 
   -- an answer is read as its first node, those between and its last
   abbrev pub askedb : Order → List ℕ → Bool
-  askedb o [] = heldb g rules (o .first) (o .second)
+  askedb o [] = heldb g rules [] (o .first) (o .second)
   askedb o (x ∷ route) = eqs (along (o .first) (dropLast route) (o .second)) (x ∷ route) && shownb (o .first) (dropLast route) (o .second)
 
   pub asked-so : Sound g → (o : Order) (route : List ℕ) → T (askedb o route) → Asked g rules o route
-  asked-so sound o [] t = is-held (says-held g rules sound (o .first) (o .second) .so t)
+  asked-so sound o [] t = is-held (says-held g rules sound [] (o .first) (o .second) .so t)
   asked-so sound o (x ∷ route) t =
       let p = says-and (says-eqs (along (o .first) (dropLast route) (o .second)) (x ∷ route)) (says-shown sound (o .first) (dropLast route) (o .second)) .so t in
       subst (Asked g rules o) (p .0) (is-open (p .1))

@@ -15,13 +15,14 @@ use Rattle.graph.specs.Written.{written, FenceRules}
 use Rattle.graph.proofs.Runs.{asked-kept, asked-again, runs-stripped}
 use Rattle.graph.proofs.Strip.{stripped-written, stripped-unique, stripped-fewer}
 use Rattle.graph.proofs.Unique.{best-unique}
-use Rattle.graph.proofs.Written.{asked-held, rising-within}
+use Rattle.graph.proofs.Written.{asked-held, held-separates, rising-within}
 
 pub demand-2 : {rules : List Rule} → FenceRules rules → (g : Graph) → Sound g → (orders : List Order) → AllName (length (g .nodes)) orders
     → (c : List ℕ) → ChosenCut g rules orders c → Demand2 g rules orders c
 demand-2 has g sound orders names c chosen = record {
   only = λ d k. best-unique k chosen;
   held = λ o m. asked-held has g orders c (chosen .among .rising) (chosen .among .separates) o m (names o m .0) (names o m .1);
+  lightest = λ d r h. chosen .least d record { rising = r; separates = held-separates g orders d r h };
   off = record { enough = stripped-fewer off; names = names; stripped = off; left = refl };
   only-off = λ total h s. stripped-unique (s .stripped) off (s .left);
 }

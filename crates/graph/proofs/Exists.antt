@@ -1,6 +1,6 @@
--- There is a chosen cut: the search of `Search`, at the routes of the open orders.
+-- There is a chosen cut: the search of `Search`, at the unordered routes of the asked orders.
 -- Assumes nothing.
-use mathlib.Core.Bool.{Bool, false, _&&_}
+use mathlib.Core.Bool.{Bool, _&&_}
 use mathlib.Core.List.{List, [], _∷_, List·Memᴰ, List·Memᴰ·head, List·Memᴰ·tail, List·Memᴰ·cases-cons, List·Memᴰ·not-nil}
 use mathlib.Core.Logic.{_⊎_, inl, inr, _≢_}
 use mathlib.Core.Path.{_≡_, refl, subst⁻¹}
@@ -13,12 +13,13 @@ use Rattle.graph.specs.declared.Rule.{Rule}
 use Rattle.graph.specs.Cut.{Rising, Best, Separates, weight, ChosenCut}
 use Rattle.graph.specs.Demands.{none}
 use Rattle.graph.specs.Graph.{Graph, Sound, edge}
-use Rattle.graph.specs.Held.{Each, Absent, Step, Follows, Route, Open}
+use Rattle.graph.specs.Held.{Each, Absent, Step, Follows, Route, Orders, HeldWithout}
 use Rattle.graph.proofs.Better.{Outcome, best-iff}
-use Rattle.graph.proofs.Decide.{says-open}
+use Rattle.graph.proofs.Decide.{heldb, says-held}
 use Rattle.graph.proofs.Lists.{everyPlace, everyList}
-use Rattle.graph.proofs.Route.{says-route, routeb, everyRoute, says-everyRoute}
-use Rattle.graph.proofs.Says.{says-T, says-no, says-implies, implies, decide, stable, and}
+use Rattle.graph.proofs.Route.{says-route, routeb}
+use Rattle.graph.proofs.Ordered.{ordersb, says-orders}
+use Rattle.graph.proofs.Says.{Says, says-T, says-implies, implies, decide, stable, and}
 use Rattle.graph.proofs.Search.{Next, search}
 use Rattle.graph.proofs.Sets.{sub-weight}
 
@@ -56,13 +57,16 @@ list-find (suc n) f = go (list-find n (λ l. f l && everyPlace n l f))
     go (inl t) = inl t
     go (inr (l, k)) = inr (which l k (sure (f l)) (place-find n l f))
 
--- a route on none of c, or that there is none
-route-find : (g : Graph) → Sound g → (c : List ℕ) (a b : ℕ) → ((between : List ℕ) → Route g c a between b → ⊥) ⊎ ((between : List ℕ) × Route g c a between b)
-route-find g sound c a b = go (list-find (length (g .nodes)) (λ between. implies (routeb g c a between b) false))
+-- all routes on none of c order their ends, or there is one that doesn't
+unordered-find : (g : Graph) (rules : List Rule) → Sound g → (c : List ℕ) (a b : ℕ) → HeldWithout g rules c a b ⊎ ((between : List ℕ) × Route g c a between b × ¬ Orders g rules a between b)
+unordered-find g rules sound c a b = go (list-find (length (g .nodes)) (λ between. implies (routeb g c a between b) (ordersb g rules a between b)))
   where
-    go : T (everyRoute g c a b (λ between. false)) ⊎ ((l : List ℕ) × (T (implies (routeb g c a l b) false) → ⊥)) → ((between : List ℕ) → Route g c a between b → ⊥) ⊎ ((between : List ℕ) × Route g c a between b)
-    go (inl t) = inl (says-everyRoute g c sound a b (λ l. says-no (λ z. z)) .so t)
-    go (inr (l, n)) = inr (l, stable (says-route g c a l b) (λ k. n (says-implies (says-route g c a l b) (says-no {P = ⊥} (λ z. z)) .back k)))
+    says : (l : List ℕ) → Says (implies (routeb g c a l b) (ordersb g rules a l b)) (Route g c a l b → Orders g rules a l b)
+    says l = says-implies (says-route g c a l b) (says-orders g rules a l b)
+
+    go : T (heldb g rules c a b) ⊎ ((l : List ℕ) × (T (implies (routeb g c a l b) (ordersb g rules a l b)) → ⊥)) → HeldWithout g rules c a b ⊎ ((between : List ℕ) × Route g c a between b × ¬ Orders g rules a between b)
+    go (inl t) = inl (says-held g rules sound c a b .so t)
+    go (inr (l, n)) = inr (l, stable (says-route g c a l b) (λ k. n (says l .back (λ r. absurd (k r)))), λ o. n (says l .back (λ r. o)))
 
 -- the edges that a route goes by
 module _ (g : Graph) (c : List ℕ) where
@@ -101,21 +105,20 @@ rising-high lo m (x ∷ t) z r l = let r1 = r .1 in ((λ e. omega arith), rising
 
 module _ (g : Graph) (rules : List Rule) (sound : Sound g) where
   abbrev Unmet : List Order → List ℕ → Type 0
-  Unmet orders c = (o : Order) × List·Memᴰ o orders × Open g rules o × ((between : List ℕ) × Route g c (o .first) between (o .second))
+  Unmet orders c = (o : Order) × List·Memᴰ o orders × ((between : List ℕ) × Route g c (o .first) between (o .second) × ¬ Orders g rules (o .first) between (o .second))
 
   unmet : (orders : List Order) (c : List ℕ) → Separates g rules orders c ⊎ Unmet orders c
   unmet [] c = inl (λ o m. absurd (List·Memᴰ·not-nil m))
-  unmet (o ∷ orders) c = go (decide (says-open g rules sound o)) (route-find g sound c (o .first) (o .second)) (unmet orders c)
+  unmet (o ∷ orders) c = go (unordered-find g rules sound c (o .first) (o .second)) (unmet orders c)
     where
-      here : (Open g rules o → (between : List ℕ) → Route g c (o .first) between (o .second) → ⊥) → Separates g rules orders c → (p : Order) → (p ≡ o) ⊎ List·Memᴰ p orders → Open g rules p → (between : List ℕ) → Route g c (p .first) between (p .second) → ⊥
-      here k rest p (inl e) = subst⁻¹ (λ (q : Order). Open g rules q → (between : List ℕ) → Route g c (q .first) between (q .second) → ⊥) e k
+      here : HeldWithout g rules c (o .first) (o .second) → Separates g rules orders c → (p : Order) → (p ≡ o) ⊎ List·Memᴰ p orders → HeldWithout g rules c (p .first) (p .second)
+      here k rest p (inl e) = subst⁻¹ (λ (q : Order). HeldWithout g rules c (q .first) (q .second)) e k
       here k rest p (inr m) = rest p m
 
-      go : Open g rules o ⊎ (Open g rules o → ⊥) → ((between : List ℕ) → Route g c (o .first) between (o .second) → ⊥) ⊎ ((between : List ℕ) × Route g c (o .first) between (o .second)) → Separates g rules orders c ⊎ Unmet orders c → Separates g rules (o ∷ orders) c ⊎ Unmet (o ∷ orders) c
-      go x y (inr (p, m, u, r)) = inr (p, List·Memᴰ·tail m, u, r)
-      go (inr x) y (inl s) = inl (λ p m. here (λ u. absurd (x u)) s p (List·Memᴰ·cases-cons m))
-      go (inl x) (inl y) (inl s) = inl (λ p m. here (λ u. y) s p (List·Memᴰ·cases-cons m))
-      go (inl x) (inr y) (inl s) = inr (o, List·Memᴰ·head refl, x, y)
+      go : HeldWithout g rules c (o .first) (o .second) ⊎ ((between : List ℕ) × Route g c (o .first) between (o .second) × ¬ Orders g rules (o .first) between (o .second)) → Separates g rules orders c ⊎ Unmet orders c → Separates g rules (o ∷ orders) c ⊎ Unmet (o ∷ orders) c
+      go x (inr (p, m, r)) = inr (p, List·Memᴰ·tail m, r)
+      go (inl x) (inl s) = inl (λ p m. here x s p (List·Memᴰ·cases-cons m))
+      go (inr x) (inl s) = inr (o, List·Memᴰ·head refl, x)
 
   positive : (i : ℕ) → i < length (g .edges) → 1 ≤ (edge g i) .weight
   positive i h = sound .ends i h .2
@@ -125,11 +128,11 @@ module _ (g : Graph) (rules : List Rule) (sound : Sound g) where
     where
       go : Separates g rules orders s ⊎ Unmet orders s → Next (λ i. (edge g i) .weight) (length (g .edges)) positive (Separates g rules orders) s
       go (inl k) = inl k
-      go (inr (o, mem, open′, (between, r))) =
+      go (inr (o, mem, (between, r, unordered))) =
           inr (
             by g s (o .first) between (o .second) (r .follows),
             by-ok g s (o .first) between (o .second) (r .follows),
-            λ t rt sep sub none. sep o mem open′ between record { follows = by-left g s t (o .first) between (o .second) (r .follows) none; once = r .once },
+            λ t rt sep sub none. unordered (sep o mem between record { follows = by-left g s t (o .first) between (o .second) (r .follows) none; once = r .once }),
           )
 
   cut-of : {orders : List Order} {c : List ℕ} → Best (λ t. Rising 0 (length (g .edges)) t × Separates g rules orders t) (weight g) c → ChosenCut g rules orders c
@@ -155,4 +158,4 @@ module _ (g : Graph) (rules : List Rule) (sound : Sound g) where
 
       go : Outcome (weight g) (λ t. Rising 0 (length (g .edges)) t × Separates g rules orders t) → (c : List ℕ) × ChosenCut g rules orders c
       go (inl (c, b)) = (c, cut-of b)
-      go (inr n) = absurd (n full (rising, λ o mem open′ between r. nowhere (o .first) (o .second) between (r .follows)))
+      go (inr n) = absurd (n full (rising, λ o mem between r. absurd (nowhere (o .first) (o .second) between (r .follows))))

@@ -74,7 +74,7 @@ each-out : (P : ℕ → Type 0) (before : List ℕ) (x : ℕ) (after : List ℕ)
 each-out P [] x after p = p
 each-out P (y ∷ before) x after p = let r = each-out P before x after (p .1) in (r .0, (p .0, r .1))
 
-each-map : (P Q : ℕ → Type 0) (xs : List ℕ) → ((x : ℕ) → P x → Q x) → Each P xs → Each Q xs
+pub each-map : (P Q : ℕ → Type 0) (xs : List ℕ) → ((x : ℕ) → P x → Q x) → Each P xs → Each Q xs
 each-map P Q [] f p = tt
 each-map P Q (x ∷ xs) f p = (f x (p .0), each-map P Q xs f (p .1))
 

@@ -33,7 +33,7 @@ pub nothing-open : {g : Graph} {rules : List Rule} {orders : List Order} {c : Li
 nothing-open {g} {rules} {orders} {c} held chosen = empty c (chosen .first [] good (omega (arith, chosen .least [] good)))
   where
     good : Cut g rules orders []
-    good = record { rising = tt; separates = λ o m open′. absurd (open′ (held o m)) }
+    good = record { rising = tt; separates = held }
 
     empty : (d : List ℕ) → First d [] → d ≡ []
     empty [] f = refl

@@ -1,7 +1,7 @@
 -- The samples of document 01 are true of the definitions: one test, computed.
 -- Assumes nothing.
 use mathlib.Core.Bool.{Bool, _&&_, not}
-use mathlib.Core.List.{List, List·Memᴰ}
+use mathlib.Core.List.{List, [], List·Memᴰ}
 use mathlib.Core.Path.{_≡_, subst⁻¹}
 use Prim.Native.Nat.{ℕ}
 use native.Mathlib.Omega.{arith}
@@ -23,7 +23,7 @@ use Rattle.graph.proofs.Written.{rising-within}
 
 abbrev ranb : Graph → List Rule → List Order → List Order → List ℕ → ℕ → Bool
 ranb g rules orders held cut total =
-    everyb (λ o. heldb g rules (o .first) (o .second)) held && (bestb (separatesb g rules orders) (weight g) (length (g .edges)) cut && eqb (weight g cut) total)
+    everyb (λ o. heldb g rules [] (o .first) (o .second)) held && (bestb (separatesb g rules orders) (weight g) (length (g .edges)) cut && eqb (weight g cut) total)
 
 abbrev namesb : ℕ → List Order → Bool
 namesb n orders = everyb (λ o. ltb (o .first) n && ltb (o .second) n) orders
@@ -47,7 +47,7 @@ sample-so (ran g rules orders held cut total) t = let r = rest in (sound, r .0, 
     sound = sound-so g (both (soundb g) (ranb g rules orders held cut total) t .0)
 
     rest : ((o : Order) → List·Memᴰ o held → Held g rules o) × (ChosenCut g rules orders cut × (weight g cut ≡ total))
-    rest = says-and (says-every (λ o. says-held g rules sound (o .first) (o .second)) held)
+    rest = says-and (says-every (λ o. says-held g rules sound [] (o .first) (o .second)) held)
         (says-and (says-cut g rules sound orders cut) (says-eq (weight g cut) total))
         .so (both (soundb g) (ranb g rules orders held cut total) t .1)
 sample-so (asked g rules orders number route) t =

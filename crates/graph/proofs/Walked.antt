@@ -19,7 +19,7 @@ module _ (S : ℕ → ℕ → Type 0) where
 abbrev pub Apart : List ℕ → List ℕ → Type 0
 Apart seen rest = Each (λ x. Absent x seen) rest
 
-each-append : (P : ℕ → Type 0) (xs ys : List ℕ) → Each P xs → Each P ys → Each P (xs ++ ys)
+pub each-append : (P : ℕ → Type 0) (xs ys : List ℕ) → Each P xs → Each P ys → Each P (xs ++ ys)
 each-append P [] ys p q = q
 each-append P (x ∷ xs) ys p q = (p .0, each-append P xs ys (p .1) q)
 

@@ -1,6 +1,6 @@
 -- Held without the cut's edges, held in the graph written: an order's route either has one of the new fences inside, or is an old route on none of them.
 -- Assumes nothing.
-use mathlib.Core.List.{List, [], _∷_, _++_, List·Memᴰ}
+use mathlib.Core.List.{List, [], _∷_, _++_, List·Memᴰ, append-nil}
 use mathlib.Core.Logic.{_⊎_, inl, inr, _≢_}
 use mathlib.Core.Path.{_≡_, refl, sym, ap, _∙_, fun-ext, subst, subst⁻¹}
 use Prim.Native.Nat.{ℕ, zero, suc, _+_, _<_, _≤_}
@@ -17,11 +17,9 @@ use Rattle.graph.specs.declared.Side.the-variants.{Any, Is}
 use Rattle.graph.specs.Cut.{Rising, Separates, weight}
 use Rattle.graph.specs.Fit.{Ruled}
 use Rattle.graph.specs.Graph.{Graph, label, edge, no-edge}
-use Rattle.graph.specs.Held.{Linked, by-rule, Absent, Within, Step, Follows, Orders, HeldWithout, Held, Open, by-way}
+use Rattle.graph.specs.Held.{Linked, by-rule, Absent, Within, Step, Follows, Orders, HeldWithout, Held, by-way}
 use Rattle.graph.specs.Written.{fenced, written, FenceRules}
 use Rattle.graph.proofs.Lists.{split}
-use Rattle.graph.proofs.Ordered.{says-orders}
-use Rattle.graph.proofs.Says.{stable}
 
 -- each label is ordered before a later fence and after an earlier one
 abbrev pub Fencing : List Rule → Type 0
@@ -158,8 +156,31 @@ rising-within lo m (x ∷ c) r = (r .1, rising-within (suc x) m c (r .2))
 -- demand 2: in the graph written every asked order is held
 pub asked-held : {rules : List Rule} → FenceRules rules → (g : Graph) (orders : List Order) (c : List ℕ) → Rising 0 (length (g .edges)) c → Separates g rules orders c
     → (o : Order) → List·Memᴰ o orders → o .first < length (g .nodes) → o .second < length (g .nodes) → Held (written g c) rules o
-asked-held {rules} has g orders c r sep o m a< b< between route =
-    stable (says-orders (written g c) rules (o .first) between (o .second)) λ unordered.
-    let kept : HeldWithout g rules c (o .first) (o .second) → ⊥ = λ held. unordered (held-written (fencing-so has) g c (rising-within 0 _ c r) (o .first) (o .second) a< b< held between route) in
-    let open′ : Open g rules o = λ held. kept (held-without g c (o .first) (o .second) held) in
-    kept (λ l at. absurd (sep o m open′ l at))
+asked-held has g orders c r sep o m a< b< = held-written (fencing-so has) g c (rising-within 0 (length (g .edges)) c r) (o .first) (o .second) a< b< (sep o m)
+
+-- ---- the other way: held in the graph written, held on the routes that avoid the edges with a fence
+
+orders-down : {rules : List Rule} (g : Graph) (e a : ℕ) (between : List ℕ) (b : ℕ) → Orders (fenced g e) rules a between b → Orders g rules a between b
+orders-down {rules} g e a between b o = subst (λ (l : ℕ → Label). Linked rules l a between b) (same-labels g e) o
+
+module _ (g : Graph) (e : ℕ) (fits : e < length (g .edges)) where
+  new-step : (c : List ℕ) (x y : ℕ) → Step g (e ∷ c) x y → Step (fenced g e) c x y
+  new-step c x y (i, h, (d, out), f, t) =
+      (i, omega (arith, fenced-count g e fits), out, ap (λ (z : Edge). z .from) (edge-other g e fits i h d) ∙ f, ap (λ (z : Edge). z .to) (edge-other g e fits i h d) ∙ t)
+
+  new-follows : (c : List ℕ) (a b : ℕ) (between : List ℕ) → Follows (Step g (e ∷ c)) a between b → Follows (Step (fenced g e) c) a between b
+  new-follows c a b [] s = new-step c a b s
+  new-follows c a b (x ∷ between) s = (new-step c a x (s .0), new-follows c x b between (s .1))
+
+  fenced-held : {rules : List Rule} (c : List ℕ) (a b : ℕ) → HeldWithout (fenced g e) rules c a b → HeldWithout g rules (e ∷ c) a b
+  fenced-held c a b held between r = orders-down g e a between b (held between record { follows = new-follows c a b between (r .follows); once = r .once })
+
+written-held : {rules : List Rule} (g : Graph) (c d : List ℕ) → Within (length (g .edges)) c → (a b : ℕ) → HeldWithout (written g c) rules d a b → HeldWithout g rules (c ++ d) a b
+written-held g [] d w a b held = held
+written-held g (e ∷ c) d w a b held =
+    fenced-held g e (w .0) (c ++ d) a b (written-held (fenced g e) c d (within-more (length (g .edges)) (length ((fenced g e) .edges)) c (omega (arith, fenced-count g e (w .0))) (w .1)) a b held)
+
+-- a set separates if, each of its edges given a fence, every asked order is held
+pub held-separates : {rules : List Rule} (g : Graph) (orders : List Order) (c : List ℕ) → Rising 0 (length (g .edges)) c → ((o : Order) → List·Memᴰ o orders → Held (written g c) rules o) → Separates g rules orders c
+held-separates {rules} g orders c r held o m =
+    subst (λ (l : List ℕ). HeldWithout g rules l (o .first) (o .second)) (append-nil c) (written-held g c [] (rising-within 0 (length (g .edges)) c r) (o .first) (o .second) (held o m))

@@ -8,7 +8,7 @@ use lib.ListN.{length}
 use Rattle.graph.specs.declared.Order.{Order}
 use Rattle.graph.specs.declared.Rule.{Rule}
 use Rattle.graph.specs.Graph.{Graph, edge}
-use Rattle.graph.specs.Held.{Route, Open}
+use Rattle.graph.specs.Held.{HeldWithout}
 
 -- a set of numbers from lo up to and without m, as its "rising list"
 abbrev pub Rising : ℕ → ℕ → List ℕ → Type 0
@@ -27,11 +27,11 @@ pub record Best (Among : List ℕ → Type 0) (weigh : List ℕ → ℕ) (c : Li
   pub least : (d : List ℕ) → Among d → weigh c ≤ weigh d
   pub first : (d : List ℕ) → Among d → weigh c ≡ weigh d → First c d
 
--- "such that, without them, no open order has a route"
+-- request 7: "A cut should have to meet only those routes of an open order that don't order its ends". So each route on none of c orders its order's ends; of a held order all do
 abbrev pub Separates : Graph → List Rule → List Order → List ℕ → Type 0
-Separates g rules orders c = (o : Order) → List·Memᴰ o orders → Open g rules o → (between : List ℕ) → ¬ Route g c (o .first) between (o .second)
+Separates g rules orders c = (o : Order) → List·Memᴰ o orders → HeldWithout g rules c (o .first) (o .second)
 
--- "A cut is a set of edges such that, without them, no open order has a route."
+-- "A cut is a set of edges such that, without them", each asked order has only routes that order its ends
 pub record Cut (g : Graph) (rules : List Rule) (orders : List Order) (c : List ℕ) : Type 0 where
   pub rising : Rising 0 (length (g .edges)) c
   pub separates : Separates g rules orders c

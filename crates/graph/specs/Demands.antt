@@ -2,13 +2,13 @@
 -- Assumes nothing.
 use mathlib.Core.Path.{_≡_}
 use mathlib.Core.List.{List, [], _∷_, List·Memᴰ}
-use Prim.Native.Nat.{ℕ}
+use Prim.Native.Nat.{ℕ, _≤_}
 use lib.ListN.{length}
 use Rattle.graph.specs.declared.Order.{Order}
 use Rattle.graph.specs.declared.Rule.{Rule}
 use Rattle.graph.specs.Graph.{Graph}
 use Rattle.graph.specs.Held.{Held}
-use Rattle.graph.specs.Cut.{ChosenCut, weight}
+use Rattle.graph.specs.Cut.{Rising, ChosenCut, weight}
 use Rattle.graph.specs.Written.{written}
 use Rattle.graph.specs.Strip.{AllName, StripTo}
 
@@ -18,6 +18,8 @@ pub record Demand2 (g : Graph) (rules : List Rule) (orders : List Order) (c : Li
   pub only : (d : List ℕ) → ChosenCut g rules orders d → d ≡ c
   -- "In the graph written every asked order is held."
   pub held : (o : Order) → List·Memᴰ o orders → Held (written g c) rules o
+  -- "no lighter set of edges, each given a full fence, leaves all asked orders held"
+  pub lightest : (d : List ℕ) → Rising 0 (length (g .edges)) d → ((o : Order) → List·Memᴰ o orders → Held (written g d) rules o) → weight g c ≤ weight g d
   -- "Taking the fences off gives the earlier graph's bytes": the earlier graph, and only that
   pub off : StripTo (length (g .nodes)) orders (written g c) (weight g c) g
   pub only-off : (total : ℕ) (h : Graph) → StripTo (length (g .nodes)) orders (written g c) total h → (h ≡ g) × (total ≡ weight g c)

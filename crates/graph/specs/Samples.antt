@@ -79,7 +79,7 @@ samples =
     ∷ ran (D-of 1) D-rules D-orders [] (0 ∷ []) 1  -- P3
     ∷ ran (D-of 3) (D-rules ++ (rule (Is (Store 1)) (Is (Load 1)) ∷ [])) D-orders D-orders [] 0  -- P4
     ∷ ran (D-of 3) D-rules (or 2 0 ∷ []) (or 2 0 ∷ []) [] 0  -- P5
-    ∷ ran diamond D-rules (or 0 3 ∷ []) [] (0 ∷ 2 ∷ []) 2  -- P6
+    ∷ ran diamond D-rules (or 0 3 ∷ []) [] (0 ∷ []) 1  -- P6, with request 7: the other route has a fence
     ∷ ran loop fence-rules (or 0 2 ∷ []) [] (0 ∷ []) 1  -- P7
     ∷ ran no-graph fence-rules [] [] [] 0  -- P8
     ∷ asked (D-of 3) D-rules D-orders 0 (0 ∷ 1 ∷ 2 ∷ [])  -- P9
@@ -117,6 +117,14 @@ more-samples =
     []
     (0 ∷ [])
     3
+    -- a route that a fence orders is left alone: to meet it too would weigh 32
+    ∷ ran
+    (record { nodes = Store 1 ∷ Store 2 ∷ Fence ∷ Store 3 ∷ Load 4 ∷ []; edges = ed 0 1 50 ∷ ed 1 2 40 ∷ ed 2 3 40 ∷ ed 3 4 30 ∷ ed 1 4 2 ∷ [] })
+    fence-rules
+    (or 0 4 ∷ [])
+    []
+    (4 ∷ [])
+    2
     -- ask: the first by node numbers is not the first by edge numbers
     ∷ asked
     (record { nodes = Store 1 ∷ Store 2 ∷ Store 3 ∷ Load 4 ∷ []; edges = ed 0 2 1 ∷ ed 2 3 1 ∷ ed 0 1 1 ∷ ed 1 3 1 ∷ [] })

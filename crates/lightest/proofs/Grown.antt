@@ -2,13 +2,13 @@
 -- Assumes nothing.
 use mathlib.Core.Bool.{Bool, false, true, false≢true}
 use mathlib.Core.List.{List}
-use mathlib.Core.Path.{_∙_, _≡_, ap, sym}
+use mathlib.Core.Path.{_∙_, _≡_, ap, refl, sym}
 use Prim.Native.Nat.{_+_, _<_, _≤_, ℕ}
 use native.Mathlib.Decide.{ℕ-discrete}
 use native.Mathlib.Omega.{arith}
 use lib.ListN.{getD, length, length-replicate, length-set, replicate, set}
 use lib.Seq.{getD-set-other, getD-set-same}
-use Rattle.lightest.specs.Made.{Cut, Made, most-weight}
+use Rattle.lightest.specs.Made.{Cut, Made, cutAt, cutBy, most-weight}
 use Rattle.lightest.specs.Sets.{Edges, Has, PartOf, weigh}
 use Rattle.graph.specs.Cut.{total}
 use Rattle.graph.specs.Limits.{most-edges}
@@ -63,3 +63,7 @@ made-none ws c w e = record {
   sum = ap (weigh ws) e ∙ ap (total (λ i. getD ws i 0)) (none-rising 0 most-edges) ∙ sym w;
   small = omega arith;
 }
+
+-- the weight of a cut is what its edges weigh
+pub made-by : (ws words : List ℕ) (w : ℕ) → Made ws (cutAt words w) → Made ws (cutBy ws words)
+made-by ws words w m = record { edges = m .edges; sum = refl; small = omega (arith, m .sum, m .small) }

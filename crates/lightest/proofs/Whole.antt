@@ -12,6 +12,7 @@ use Rattle.lightest.specs.Made.{Cut, Pick}
 use Rattle.lightest.specs.Search.{Picked}
 use Rattle.lightest.specs.Sets.{Has, Edges}
 use Rattle.graph.specs.Limits.{most-edges}
+use Rattle.walked.specs.Unordered.{Out, Leads}
 use Rattle.graph.proofs.Splits.{true-false, bool, lt-or-ge}
 use Rattle.lightest.proofs.Weights.{none-has, total-most}
 
@@ -39,10 +40,14 @@ fill-out zero (suc n) (suc e) h = fill-out zero n e (omega arith)
 fill-out (suc m) (suc n) zero h = absurd (omega arith)
 fill-out (suc m) (suc n) (suc e) h = fill-out m n e (omega arith)
 
-module _ (from to links ws firsts seconds : List ℕ) (kn : Known from to links ws firsts seconds) where
-  apart : Apart from to firsts seconds (fill (length ws) most-edges)
-  apart i h [] w = kn .ends i h .2 w
-  apart i h (e ∷ es) w = true-false (fill-in (length ws) most-edges e (omega (arith, kn .weights, kn .net .few)) (omega (arith, kn .weights, w .0))) (w .2)
+module _ (from to ins on fits ws us vs : List ℕ) (kn : Known from to ins on ws us vs) where
+  -- all edges are in the set
+  full : (p q : ℕ) → Leads from to (Out (fill (length ws) most-edges)) p q → ⊥
+  full p q (e, g) = true-false (fill-in (length ws) most-edges e (omega (arith, kn .weights, kn .net .few)) (omega (arith, kn .weights, g .0))) (g .1)
+
+  apart : Apart from to fits us vs (fill (length ws) most-edges)
+  apart i h [] u = full (getD us i 0) (getD vs i 0) (u .follows)
+  apart i h (x ∷ between) u = full (getD us i 0) x (u .follows .0)
 
   edges : Edges ws (fill (length ws) most-edges)
   edges = record { long = fill-long (length ws) most-edges; known = known }
@@ -51,6 +56,6 @@ module _ (from to links ws firsts seconds : List ℕ) (kn : Known from to links 
       known e h = ⊎-elim (λ l. (l, kn .some e l)) (λ l. absurd (true-false h (fill-out (length ws) most-edges e l))) (lt-or-ge e (length ws))
 
   -- so the search from nothing finds one
-  pub found : (s : Cut) (a : ℕ) (r : Pick) → ((e : ℕ) → getD ws e 0 < 65536) → s .chosen ≡ replicate most-edges false → 67107840 ≤ a → Picked ws (Apart from to firsts seconds) s a r → r .found ≡ true
+  pub found : (s : Cut) (a : ℕ) (r : Pick) → ((e : ℕ) → getD ws e 0 < 65536) → s .chosen ≡ replicate most-edges false → 67107840 ≤ a → Picked ws (Apart from to fits us vs) s a r → r .found ≡ true
   found s a r f z h pk = ⊎-elim (λ q. q) (λ q. absurd (omega (arith, h, kn .weights, kn .net .few, total-most (λ i. getD ws i 0) 0 (fill (length ws) most-edges) f, edges .long, pk .none q (fill (length ws) most-edges) (record { edges = edges; good = apart; has = λ i x. absurd (false≢true (sym (ap (λ (v : List Bool). getD v i false) z ∙ none-has most-edges i) ∙ x)) }))))
       (bool (r .found))

@@ -31,13 +31,21 @@ flagsFrom k (suc n) w = flag w k ∷ flagsFrom (suc k) n w
 abbrev pub edgesOf : List ℕ → List Bool
 edgesOf words = flagsFrom 0 most-edges (whole words)
 
+-- the cut of the edges in words, with a weight beside them
+abbrev pub cutAt : List ℕ → ℕ → Cut
+cutAt words w = record { chosen = edgesOf words; weight = w }
+
+-- the same with what they weigh
+abbrev pub cutBy : List ℕ → List ℕ → Cut
+cutBy ws words = cutAt words (weigh ws (edgesOf words))
+
 -- the cut that a value holds
 abbrev pub cutOf : Value.Cut → Cut
-cutOf c = record { chosen = edgesOf (c .chosen); weight = c .weight }
+cutOf c = cutAt (c .chosen) (c .weight)
 
 -- the answer that a value gives, with its edges in the words beside it
 abbrev pub pickOf : Weighed.Pick → List ℕ → Pick
-pickOf p words = record { found = p .found; cut = record { chosen = edgesOf words; weight = p .weight } }
+pickOf p words = record { found = p .found; cut = cutAt words (p .weight) }
 
 -- "exact because weights are below 2^24": 2^26 with 1,024 edges, which weigh at most 67,107,840
 abbrev pub most-weight : ℕ

@@ -1,16 +1,21 @@
 // A lower bound on the weight of every cut: routes that must be met, packed with amounts that no edge's weight falls short of.
+// Edge e leads from `from[e]` to `to[e]` and weighs `ws[e]`; `ins` links the edges by their ends, `on` by their starts. Pair i is `us[i]` and
+// `vs[i]`. For each node `fits` has those that some rule fits with it. `kept` is lent to the search for a route, whatever it has.
 ghost use mathlib.Core.Path.{_≡_};
-ghost use Prim.Native.Nat.{_+_, _<_, _≤_};
+ghost use Prim.Native.Nat.{_<_, _≤_};
 ghost use lib.ListN.{length, getD};
 ghost use Rattle.graph.specs.Limits.{most-edges};
-ghost use Rattle.lightest.specs.Made.{Made, cutOf, edgesOf, most-weight};
+ghost use Rattle.sets.specs.Whole.{rows};
+ghost use Rattle.lightest.specs.Made.{Made, cutBy, edgesOf, most-weight};
 ghost use Rattle.lightest.specs.Apart.{Apart, Known};
 ghost use Rattle.lightest.specs.Search.{Fair, Unspent, Smallest, Reduced, Bounded};
-use crate::Cut;
 use graph::Graph;
 use route::Route;
 use route::wide;
+use sets::wide::WideSet;
 use sets::wide::has;
+use unordered::find_route;
+use words::Sets;
 
 pub struct Residue {
     pub left: [u16; Graph::EDGES],
@@ -37,19 +42,18 @@ pub fn edge_at(edges: &[u16; Graph::NODES], n: usize, i: usize) -> usize
     wide(edges[i])
 }
 
-// The weights, and 0 for an edge that s has.
-fn unspent(ws: &[u16], s: Cut) -> Residue
+// The weights, and 0 for a chosen edge.
+fn unspent(ws: &[u16], chosen: &WideSet) -> Residue
     requires { ⌜ length (now ws) ≤ most-edges ⌝ }
-    ensures { λ r. ⌜ (length (r .left) ≡ most-edges) × Unspent (now (ws .entry)) (edgesOf (s .chosen)) (r .left) ⌝ }
+    ensures { λ r. ⌜ (length (r .left) ≡ most-edges) × Unspent (now (ws .entry)) (edgesOf (now (chosen .entry))) (r .left) ⌝ }
 {
     let mut r = Residue {
         left: [0u16; Graph::EDGES],
     };
-    let chosen = s.chosen;
     let n = ws.len();
     let mut e = 0;
     while e < n {
-        if !has(&chosen, e) {
+        if !has(chosen, e) {
             r.left[e] = ws[e];
         }
         e += 1;
@@ -92,34 +96,36 @@ fn reduce(edges: &[u16; Graph::NODES], n: usize, left: &mut [u16; Graph::EDGES],
     }
 }
 
-// Packs routes of the pairs that s misses, each with the most that its edges have left, until they sum to more than the allowance or no route is left.
+// Packs unordered routes of the pairs that the chosen edges miss, each with the most that its edges have left, until they sum to more than the allowance or no route is left.
 pub fn bound(
     from: &[u16],
     to: &[u16],
-    links: &[u16; Graph::NODES + Graph::EDGES],
+    ins: &[u16; Graph::NODES + Graph::EDGES],
+    on: &[u16; Graph::NODES + Graph::EDGES],
+    fits: &Sets,
     ws: &[u16],
-    firsts: &[u16],
-    seconds: &[u16],
-    s: Cut,
+    us: &[u16],
+    vs: &[u16],
+    chosen: &WideSet,
     allowance: u32,
+    kept: &mut Sets,
 ) -> Packing
-    requires { ⌜ Known (now from) (now to) (now links) (now ws) (now firsts) (now seconds) ⌝ }
-    requires { ⌜ (Made (now ws) (cutOf s)) × (s .weight + allowance < most-weight) ⌝ }
-    ensures { λ r. ⌜ Bounded (now (ws .entry)) (Apart (now (from .entry)) (now (to .entry)) (now (firsts .entry)) (now (seconds .entry))) (cutOf s) r ⌝ }
+    requires { ⌜ Known (now from) (now to) (now ins) (now on) (now ws) (now us) (now vs) ⌝ }
+    requires { ⌜ (Made (now ws) (cutBy (now ws) (now chosen))) × (allowance < most-weight) ⌝ }
+    ensures { λ r. ⌜ Bounded (now (ws .entry)) (Apart (now (from .entry)) (now (to .entry)) (rows (now (fits .entry))) (now (us .entry)) (now (vs .entry))) (cutBy (now (ws .entry)) (now (chosen .entry))) r ⌝ }
 {
-    let whole = unspent(ws, s);
+    let whole = unspent(ws, chosen);
     let mut left = whole.left;
     let mut first = [0u16; Graph::NODES];
     let mut len = 0;
-    let mut via = [0u16; Graph::NODES];
     let mut way = [0u16; Graph::NODES];
     let mut sum: u32 = 0;
-    let n = firsts.len();
+    let n = us.len();
     let mut i = 0;
     while i < n {
-        let a = wide(firsts[i]);
-        let b = wide(seconds[i]);
-        let k = route::find_route(from, to, links, &left, a, b, &mut via, &mut way);
+        let a = wide(us[i]);
+        let b = wide(vs[i]);
+        let k = find_route(from, to, ins, on, fits, &left, a, b, kept, &mut way);
         if k == 0 {
             i += 1;
         } else {

@@ -2,8 +2,8 @@
 ghost use mathlib.Core.Bool.{false};
 ghost use mathlib.Core.Path.{_≡_};
 ghost use Prim.Native.Nat.{_+_, _<_};
-ghost use Rattle.sets.specs.Whole.{whole};
-ghost use Rattle.lightest.specs.Made.{Made, cutOf, edgesOf, pickOf, most-weight};
+ghost use Rattle.sets.specs.Whole.{whole, rows};
+ghost use Rattle.lightest.specs.Made.{Made, cutAt, cutBy, cutOf, edgesOf, pickOf, most-weight};
 ghost use Rattle.lightest.specs.Sets.{Least};
 ghost use Rattle.lightest.specs.Apart.{Apart, Known};
 ghost use Rattle.lightest.specs.Search.{Fair, Marks, Levelled, Picked};
@@ -18,6 +18,7 @@ use sets::wide::WideSet;
 use sets::wide::has;
 use sets::wide::none;
 use sets::wide::put_in;
+use words::Sets;
 
 // No cut weighs more than all the edges can.
 const MOST: u32 = Graph::EDGES as u32 * 65535;
@@ -43,22 +44,25 @@ fn edges_of(route: Route) -> WideSet
     set
 }
 
-// What a level keeps of the bound on s. It is a function by itself so that the bound's arrays are gone when the search goes deeper.
+// What a level keeps of the bound on the chosen edges. It is a function by itself so that the bound's arrays are gone when the search goes deeper.
 fn level_of(
     from: &[u16],
     to: &[u16],
-    links: &[u16; Graph::NODES + Graph::EDGES],
+    ins: &[u16; Graph::NODES + Graph::EDGES],
+    on: &[u16; Graph::NODES + Graph::EDGES],
+    fits: &Sets,
     ws: &[u16],
-    firsts: &[u16],
-    seconds: &[u16],
-    s: Cut,
+    us: &[u16],
+    vs: &[u16],
+    chosen: &WideSet,
     allowance: u32,
+    kept: &mut Sets,
 ) -> Level
-    requires { ⌜ Known (now from) (now to) (now links) (now ws) (now firsts) (now seconds) ⌝ }
-    requires { ⌜ (Made (now ws) (cutOf s)) × (s .weight + allowance < most-weight) ⌝ }
-    ensures { λ r. ⌜ Levelled (now (ws .entry)) (Apart (now (from .entry)) (now (to .entry)) (now (firsts .entry)) (now (seconds .entry))) (cutOf s) (whole (r .route)) (r .len) (r .sum) ⌝ }
+    requires { ⌜ Known (now from) (now to) (now ins) (now on) (now ws) (now us) (now vs) ⌝ }
+    requires { ⌜ (Made (now ws) (cutBy (now ws) (now chosen))) × (allowance < most-weight) ⌝ }
+    ensures { λ r. ⌜ Levelled (now (ws .entry)) (Apart (now (from .entry)) (now (to .entry)) (rows (now (fits .entry))) (now (us .entry)) (now (vs .entry))) (cutBy (now (ws .entry)) (now (chosen .entry))) (whole (r .route)) (r .len) (r .sum) ⌝ }
 {
-    let b = bound(from, to, links, ws, firsts, seconds, s, allowance);
+    let b = bound(from, to, ins, on, fits, ws, us, vs, chosen, allowance, kept);
     let route = edges_of(b.route);
     Level {
         route,
@@ -67,38 +71,43 @@ fn level_of(
     }
 }
 
-// The lightest cut that has the edges of s and weighs at most the allowance more, or none. Its edges are written to `best`, which else stays as it was.
+// The lightest cut that has the chosen edges and weighs at most the allowance more than they do, or none. Its edges are written to `best`,
+// which else stays as it was. The chosen edges are lent, not copied: a level of the search holds two sets on the stack, its route's edges and
+// the larger choice that it lends in turn.
 fn least(
     from: &[u16],
     to: &[u16],
-    links: &[u16; Graph::NODES + Graph::EDGES],
+    ins: &[u16; Graph::NODES + Graph::EDGES],
+    on: &[u16; Graph::NODES + Graph::EDGES],
+    fits: &Sets,
     ws: &[u16],
-    firsts: &[u16],
-    seconds: &[u16],
-    s: Cut,
+    us: &[u16],
+    vs: &[u16],
+    chosen: &WideSet,
+    weight: u32,
     allowance: u32,
+    kept: &mut Sets,
     best: &mut WideSet,
 ) -> Pick
-    requires { ⌜ Known (now from) (now to) (now links) (now ws) (now firsts) (now seconds) ⌝ }
-    requires { ⌜ (Made (now ws) (cutOf s)) × (s .weight + allowance < most-weight) ⌝ }
-    ensures { λ r. ⌜ Picked (now (ws .entry)) (Apart (now (from .entry)) (now (to .entry)) (now (firsts .entry)) (now (seconds .entry))) (cutOf s) allowance (pickOf r (now (best .exit))) ⌝ }
+    requires { ⌜ Known (now from) (now to) (now ins) (now on) (now ws) (now us) (now vs) ⌝ }
+    requires { ⌜ (Made (now ws) (cutAt (now chosen) weight)) × (weight + allowance < most-weight) ⌝ }
+    ensures { λ r. ⌜ Picked (now (ws .entry)) (Apart (now (from .entry)) (now (to .entry)) (rows (now (fits .entry))) (now (us .entry)) (now (vs .entry))) (cutAt (now (chosen .entry)) weight) allowance (pickOf r (now (best .exit))) ⌝ }
     ensures { λ r. ⌜ (r .found ≡ false → now (best .exit) ≡ now (best .entry)) ⌝ }
 {
     let mut found = Pick {
         found: false,
-        weight: s.weight,
+        weight,
     };
-    let b = level_of(from, to, links, ws, firsts, seconds, s, allowance);
+    let b = level_of(from, to, ins, on, fits, ws, us, vs, chosen, allowance, kept);
     let sum = b.sum;
     if allowance < sum {
         return found;
     }
     if b.len == 0 {
-        let chosen = s.chosen;
-        *best = chosen;
+        *best = *chosen;
         return Pick {
             found: true,
-            weight: s.weight,
+            weight,
         };
     }
     let n = ws.len();
@@ -107,11 +116,14 @@ fn least(
         if has(&b.route, e) {
             let w = wider(ws[e]);
             if w <= rest {
-                let larger = s.with_edge(e, w);
-                let c = least(from, to, links, ws, firsts, seconds, larger, rest - w, best);
+                let mut t = *chosen;
+                put_in(&mut t, e);
+                let h = weight + w;
+                let more = rest - w;
+                let c = least(from, to, ins, on, fits, ws, us, vs, &t, h, more, kept, best);
                 if c.found {
                     found = c.lighter(found);
-                    let spent = found.weight - s.weight;
+                    let spent = found.weight - weight;
                     if spent == sum {
                         return found;
                     }
@@ -127,21 +139,25 @@ fn least(
 pub fn best(
     from: &[u16],
     to: &[u16],
-    links: &[u16; Graph::NODES + Graph::EDGES],
+    ins: &[u16; Graph::NODES + Graph::EDGES],
+    on: &[u16; Graph::NODES + Graph::EDGES],
+    fits: &Sets,
     ws: &[u16],
-    firsts: &[u16],
-    seconds: &[u16],
+    us: &[u16],
+    vs: &[u16],
+    kept: &mut Sets,
 ) -> Cut
-    requires { ⌜ Known (now from) (now to) (now links) (now ws) (now firsts) (now seconds) ⌝ }
-    ensures { λ r. ⌜ Made (now (ws .entry)) (cutOf r) × Least (now (ws .entry)) (Apart (now (from .entry)) (now (to .entry)) (now (firsts .entry)) (now (seconds .entry))) (edgesOf (r .chosen)) ⌝ }
+    requires { ⌜ Known (now from) (now to) (now ins) (now on) (now ws) (now us) (now vs) ⌝ }
+    ensures { λ r. ⌜ Made (now (ws .entry)) (cutOf r) × Least (now (ws .entry)) (Apart (now (from .entry)) (now (to .entry)) (rows (now (fits .entry))) (now (us .entry)) (now (vs .entry))) (edgesOf (r .chosen)) ⌝ }
 {
-    let start = Cut::empty();
+    let mut k = Cut::empty();
     let mut c = none();
-    let lightest = least(from, to, links, ws, firsts, seconds, start, MOST, &mut c);
+    let s = k.chosen;
+    let h = k.weight;
+    let m = MOST;
+    let lightest = least(from, to, ins, on, fits, ws, us, vs, &s, h, m, kept, &mut c);
     let weight = lightest.weight;
-    let b = bound(from, to, links, ws, firsts, seconds, start, weight);
-    let gap = weight - b.sum;
-    let mut k = start;
+    let b = bound(from, to, ins, on, fits, ws, us, vs, &s, weight, kept);
     let n = ws.len();
     let mut e = 0;
     while e < n {
@@ -151,9 +167,12 @@ pub fn best(
         } else {
             let rest = weight - k.weight;
             if w <= rest {
-                if wider(b.left[e]) <= gap {
+                if wider(b.left[e]) <= weight - b.sum {
                     let next = k.with_edge(e, w);
-                    let d = least(from, to, links, ws, firsts, seconds, next, rest - w, &mut c);
+                    let t = next.chosen;
+                    let h = next.weight;
+                    let m = rest - w;
+                    let d = least(from, to, ins, on, fits, ws, us, vs, &t, h, m, kept, &mut c);
                     if d.found {
                         k = next;
                     }

@@ -133,19 +133,19 @@ module _ (from to left : List ℕ) (goal : ℕ) where
         done = done;
       }
         where
-          back : (w k : ℕ) → w < most-nodes → getD (set dist v (d + 1)) w 0 ≡ suc k → k < 65534 → Back from to left (set dist v (d + 1)) w k (getD (set via v e) w 0)
+          back : (w k : ℕ) → w < most-nodes → getD (set dist v (d + 1)) w 0 ≡ suc k → k < 65534 → Back from to left (set dist v (d + 1)) k (getD (set via v e) w 0)
           back w k l z small = ⊎-elim here there (new w)
             where
-              here : (w ≡ v) × (getD (set dist v (d + 1)) w 0 ≡ d + 1) → Back from to left (set dist v (d + 1)) w k (getD (set via v e) w 0)
+              here : (w ≡ v) × (getD (set dist v (d + 1)) w 0 ≡ d + 1) → Back from to left (set dist v (d + 1)) k (getD (set via v e) w 0)
               here a =
                   let p : getD (set via v e) w 0 ≡ e = at-same (set via v e) (a .0) ∙ getD-set-same via v e 0 (omega (arith, v64, y .wide)) in
                   let dk : d ≡ k = omega (arith, a .1, z) in
-                  subst⁻¹ (Back from to left (set dist v (d + 1)) w k) p (h, o, sym at ∙ sym (a .0), spread-keep (getD to e 0) (omega (arith, q, dk, small)) ∙ q ∙ dk)
+                  subst⁻¹ (Back from to left (set dist v (d + 1)) k) p (h, o, spread-keep (getD to e 0) (omega (arith, q, dk, small)) ∙ q ∙ dk)
 
-              there : (w ≢ v) × (getD (set dist v (d + 1)) w 0 ≡ getD dist w 0) → Back from to left (set dist v (d + 1)) w k (getD (set via v e) w 0)
+              there : (w ≢ v) × (getD (set dist v (d + 1)) w 0 ≡ getD dist w 0) → Back from to left (set dist v (d + 1)) k (getD (set via v e) w 0)
               there a =
                   let b = y .led .back w k l (sym (a .1) ∙ z) small in
-                  subst⁻¹ (Back from to left (set dist v (d + 1)) w k) (getD-set-other via v w e 0 (a .0)) (b .0, b .1, b .2, spread-keep (getD to (getD via w 0) 0) (omega (arith, b .3, small)) ∙ b .3)
+                  subst⁻¹ (Back from to left (set dist v (d + 1)) k) (getD-set-other via v w e 0 (a .0)) (b .0, b .1, spread-keep (getD to (getD via w 0) 0) (omega (arith, b .2, small)) ∙ b .2)
 
           known : (j : ℕ) → j < count + 1 → (getD (set queue count (getD from e 0)) j 0 < most-nodes) × (getD (set dist v (d + 1)) (getD (set queue count (getD from e 0)) j 0) 0 < 65535)
           known j l = go (ℕ-discrete j count)

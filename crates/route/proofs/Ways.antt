@@ -1,9 +1,9 @@
--- An element after a store, how many nodes are not reached, and ways one edge longer.
+-- An element after a store, how many nodes are not reached, and where ways start.
 -- Assumes nothing.
 use mathlib.Core.Bool.{false}
-use mathlib.Core.List.{List, [], _∷_, _++_}
+use mathlib.Core.List.{List, [], _∷_}
 use mathlib.Core.Logic.{_⊎_, inl, inr, _≢_}
-use mathlib.Core.Path.{_≡_, refl, sym, ap, _∙_, subst, subst⁻¹}
+use mathlib.Core.Path.{_≡_, refl, ap, _∙_, subst, subst⁻¹}
 use Prim.Native.Nat.{ℕ, zero, suc, _+_, _<_, _≤_}
 use native.Mathlib.Decide.{ℕ-discrete}
 use native.Mathlib.Omega.{arith}
@@ -42,11 +42,6 @@ module _ (from to : List ℕ) where
   -- where the edges of a net end
   pub net-ends : Net from to → (length to ≤ most-edges) × ((e : ℕ) → e < length to → getD to e 0 < most-nodes)
   net-ends net = (omega (arith, net .both, net .few), λ e h. net .head e (omega (arith, net .both, h)))
-
-  -- one edge more at the end
-  pub way-on : (Ok : ℕ → Type 0) (a : ℕ) (es : List ℕ) (b e : ℕ) → Way from to Ok a es b → e < length from → getD from e 0 ≡ b → Ok e → Way from to Ok a (es ++ (e ∷ [])) (getD to e 0)
-  way-on Ok a [] b e w l f o = (l, f ∙ sym w, o, refl)
-  way-on Ok a (x ∷ es) b e w l f o = (w .0, w .1, w .2, way-on Ok (getD to x 0) es b e (w .3) l f o)
 
   -- where nothing leads on to what is reached, a way to it starts at what is reached
   pub way-back : (left dist : List ℕ) → Shut from to left dist → (a : ℕ) (es : List ℕ) (b : ℕ) → Way from to (Remains left) a es b → getD dist b 0 < 65535 → getD dist a 0 < 65535

@@ -1,6 +1,5 @@
 -- Ways through a graph by the numbers of their edges. Edge e goes from node `getD from e 0` to node `getD to e 0`.
 -- Assumes nothing.
-use mathlib.Core.Bool.{Bool, false}
 use mathlib.Core.List.{List, [], _∷_}
 use mathlib.Core.Path.{_≡_}
 use Prim.Native.Nat.{ℕ, _+_, _<_, _≤_}
@@ -26,10 +25,6 @@ abbrev pub Way : (from to : List ℕ) → (ℕ → Type 0) → ℕ → List ℕ 
 Way from to Ok a [] b = a ≡ b
 Way from to Ok a (e ∷ es) b = (e < length from) × (getD from e 0 ≡ a) × Ok e × Way from to Ok (getD to e 0) es b
 
--- edge e is not in the set t
-abbrev pub Out : List Bool → ℕ → Type 0
-Out t e = getD t e false ≡ false
-
 -- something is left of edge e
 abbrev pub Remains : List ℕ → ℕ → Type 0
 Remains left e = 1 ≤ getD left e 0
@@ -38,13 +33,8 @@ Remains left e = 1 ≤ getD left e 0
 abbrev pub Sealed : List ℕ → List ℕ → ℕ → Type 0
 Sealed to left b = (e : ℕ) → e < length to → getD to e 0 ≡ b → Remains left e → ⊥
 
--- no way from a to b is left without the edges of t
-abbrev pub Parts : List ℕ → List ℕ → ℕ → ℕ → List Bool → Type 0
-Parts from to a b t = (es : List ℕ) → Way from to (Out t) a es b → ⊥
-
--- no edge, and there is no way; or the edges of a way
+-- no edge, and there is no way; or edges of which something is left
 pub record Found (from to left : List ℕ) (a b : ℕ) (r : Route) : Type 0 where
   pub short : r .len ≤ most-nodes
   pub none : r .len ≡ 0 → (es : List ℕ) → Way from to (Remains left) a es b → ⊥
   pub edge : (k : ℕ) → k < r .len → (getD (r .edges) k 0 < length from) × Remains left (getD (r .edges) k 0)
-  pub way : 0 < r .len → (t : List Bool) → ((k : ℕ) → k < r .len → Out t (getD (r .edges) k 0)) → (es : List ℕ) × Way from to (Out t) a es b

@@ -95,15 +95,10 @@ fn trace(
     n
 }
 
-// An array has its length. This does nothing: who has only a reference to one learns it here.
-fn sized(a: [u16; Graph::NODES])
-    ensures { λ r. ⌜ length a ≡ most-nodes ⌝ }
-{}
-
 // A route with the fewest edges from a to goal on which no edge is gone: an edge with nothing left is. Its edges are written to `out`; how
 // many they are is returned, 0 where there is no route. Nodes are reached backwards, in the order of their distance: `dist` is how far each
 // is from the goal, 65535 where it is not reached, `via` the edge that it goes on by. Until the route is written the nodes reached stand in
-// `out`, `count` of them. What is lent may have anything: only `dist` is read before it is written.
+// `out`, `count` of them. What is lent may have anything: it is written before it is read.
 pub fn find_route(
     from: &[u16],
     to: &[u16],
@@ -111,7 +106,6 @@ pub fn find_route(
     left: &[u16; Graph::EDGES],
     a: usize,
     goal: usize,
-    via: &mut [u16; Graph::NODES],
     out: &mut [u16; Graph::NODES],
 ) -> usize
     requires { ⌜ Net (now from) (now to) × Linked (now to) (now links) 0 ⌝ }
@@ -122,8 +116,8 @@ pub fn find_route(
     if !ends_left(to, links, left, goal) {
         return 0;
     }
-    sized(*via);
     let n = from.len();
+    let mut via = [0u16; Graph::NODES];
     let mut dist = [65535u16; Graph::NODES];
     dist[goal] = 0;
     out[0] = goal as u16;
@@ -148,7 +142,7 @@ pub fn find_route(
         }
         i += 1;
         if dist[a] < 65535 {
-            return trace(from, to, left, a, goal, &dist, via, out);
+            return trace(from, to, left, a, goal, &dist, &via, out);
         }
     }
     0

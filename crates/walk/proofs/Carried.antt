@@ -13,7 +13,7 @@ use Rattle.flags.proofs.Put.{put-same, put-other}
 use Rattle.graph.specs.Held.{Absent, Ordered, by-rule, by-way}
 use Rattle.graph.proofs.Ordered.{LastLink, last-link}
 use Rattle.hope.specs.Rest.{mark}
-use Rattle.words.specs.Words.{listed}
+use Rattle.walk.specs.Asked.{Lists}
 use Rattle.hope.proofs.Rest.{mark-same, mark-more, mark-keeps, mark-new}
 
 -- ---- what is ordered after the first node once one more is on the route
@@ -54,9 +54,6 @@ module _ (Fit : ℕ → ℕ → Type 0) where
           sort (inr (later, q)) = inl (by-way m before later q p (by-rule f))
 
 -- ---- the sets
-
-abbrev pub Lists : List ℕ → ℕ → ℕ → Type 0
-Lists words p q = listed words p q ≡ true
 
 module _ (fits : List ℕ) (a : ℕ) where
   -- the two sets are right for a route that has gone from a over `seen`; `path` has its nodes, in any order

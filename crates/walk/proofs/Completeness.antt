@@ -9,7 +9,8 @@ use Rattle.flags.specs.Flag.{flag, put}
 use Rattle.graph.specs.Held.{Absent, Follows, NoneTwice, Ordered}
 use Rattle.graph.proofs.Walked.{Apart, apart-cons, each-split}
 use Rattle.hope.specs.Rest.{Next, ends, goes, mark}
-use Rattle.walk.proofs.Carried.{Carried, Lists, carried-on}
+use Rattle.walk.specs.Asked.{Lists}
+use Rattle.walk.proofs.Carried.{Carried, carried-on}
 
 absent-last : (x : ℕ) (rest : List ℕ) (b : ℕ) → Absent x (rest ++ b ∷ []) → x ≢ b
 absent-last x rest b p = each-split (λ y. x ≢ y) rest (b ∷ []) p .1 .0

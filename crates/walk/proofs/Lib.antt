@@ -6,6 +6,7 @@ pub mod Tried
 pub mod Carried
 pub mod Soundness
 pub mod Completeness
+pub mod Sought
 pub mod First
 pub mod Judged
 pub mod Unique

@@ -8,7 +8,8 @@ use Rattle.flags.specs.Flag.{flag}
 use Rattle.graph.specs.Held.{Absent, Follows, NoneTwice, Ordered}
 use Rattle.graph.proofs.Walked.{Apart, apart-uncons}
 use Rattle.hope.specs.Rest.{Rest, ends, goes}
-use Rattle.walk.proofs.Carried.{Carried, Lists, carried-on}
+use Rattle.walk.specs.Asked.{Lists}
+use Rattle.walk.proofs.Carried.{Carried, carried-on}
 
 module _ (succ fits : List ℕ) (a goal : ℕ) where
   -- l goes on from p, where the route has gone from a over `seen`

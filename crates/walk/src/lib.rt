@@ -14,7 +14,6 @@ use sets::size;
 use sets::take_out;
 use sets::with;
 use words::Sets;
-use words::fits_of;
 use words::succ_of;
 ghost use mathlib.Core.Path.{_≡_};
 ghost use mathlib.Core.Bool.{false};
@@ -25,8 +24,9 @@ ghost use Rattle.flags.specs.Flag.{flag};
 ghost use Rattle.graph.specs.Graph.{Sound, Orderly};
 ghost use Rattle.graph.specs.Limits.{most-nodes};
 ghost use Rattle.graph.specs.Value.{graphOf, ordersOf, Sized, Told};
-ghost use Rattle.walk.specs.Asked.{AskedOf};
+ghost use Rattle.walk.specs.Asked.{AskedOf, ByTables};
 ghost use Rattle.sets.specs.Whole.{whole, rows};
+ghost use Rattle.words.specs.Words.{Fitted};
 ghost use Rattle.hope.specs.Rest.{Rest, Next};
 ghost use Rattle.hope.specs.Hope.{Into};
 ghost use Rattle.walk.specs.Search.{Answer, Back};
@@ -129,7 +129,8 @@ fn trial<'a, 'b, 'c, 'd, 'e>(
 }
 
 // Whether the order (a, b) is held in a graph of n nodes with these tables: where it is, len is 0, and where not, this is the first route that
-// does not order its ends. The third table is lent to the tests for a way on, whatever it has.
+// does not order its ends. Of tables that are no graph's it says whether each route over them orders its ends. The third table is lent to the
+// tests for a way on, whatever it has.
 pub fn open_route<'a>(
     succ: &'a Sets,
     fits: &'a Sets,
@@ -139,7 +140,7 @@ pub fn open_route<'a>(
     b: usize,
 ) -> Way
     requires { ⌜ (n ≤ most-nodes) × (a < most-nodes) × (b < most-nodes) ⌝ }
-    ensures { λ r. ⌜ (r .len ≤ most-nodes) × AskedOf (rows (now (succ .entry))) (rows (now (fits .entry))) a b (take (r .len) (r .nodes)) ⌝ }
+    ensures { λ r. ⌜ (r .len ≤ most-nodes) × AskedOf (rows (now (succ .entry))) (rows (now (fits .entry))) a b (take (r .len) (r .nodes)) × ByTables (rows (now (succ .entry))) (rows (now (fits .entry))) a b (take (r .len) (r .nodes)) ⌝ }
 {
     let mut after = fits[a];
     let mut nodes = [0u16; Graph::NODES];
@@ -167,14 +168,13 @@ pub fn open_route<'a>(
     Way { len, nodes }
 }
 
-// For each order whether it is open.
-pub fn open_orders(g: Graph) -> [bool; Graph::ORDERS]
+// For each order whether it is open, by the table of the rules. The other table is lent to the tests for a way on, whatever it has.
+pub fn open_orders(g: Graph, fits: &Sets, lent: &mut Sets) -> [bool; Graph::ORDERS]
     requires { ⌜ Sized g × Sound (graphOf g) × Orderly (length ((graphOf g) .nodes)) (ordersOf g) ⌝ }
+    requires { ⌜ Fitted g (rows (now fits)) ⌝ }
     ensures { λ r. ⌜ Told g r ⌝ }
 {
     let succ = succ_of(g);
-    let fits = fits_of(g);
-    let mut scratch = [[0u64; sets::WORDS]; Graph::NODES];
     let n = g.node_count;
     let orders = g.orders;
     let mut open = [false; Graph::ORDERS];
@@ -182,8 +182,8 @@ pub fn open_orders(g: Graph) -> [bool; Graph::ORDERS]
         let order = orders[i];
         let way = open_route(
             &succ,
-            &fits,
-            &mut scratch,
+            fits,
+            lent,
             n,
             order.first as usize,
             order.second as usize,

@@ -56,7 +56,7 @@ zeros zero q = refl
 zeros (suc n) zero = refl
 zeros (suc n) (suc q) = zeros n q
 
-zero-words : (p q : ℕ) → listed (replicate most-nodes 0) p q ≡ false
+pub zero-words : (p q : ℕ) → listed (replicate most-nodes 0) p q ≡ false
 zero-words p q = ap (λ (w : ℕ). flag w q) (zeros most-nodes p) ∙ flag-zero q
 
 module _ (test : ℕ → ℕ → Bool) where

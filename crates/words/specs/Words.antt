@@ -16,16 +16,22 @@ use Rattle.graph.specs.declared.Rule.{Rule}
 use Rattle.graph.specs.Fit.{Ruled, ruledb}
 use Rattle.graph.specs.Graph.{Graph, Sound, label, no-edge}
 use Rattle.graph.specs.Held.{Step}
+use Rattle.graph.specs.Value.{rulesOf}
+use Rattle.graph.specs.declared.Graph as Value
 
 -- q is in the row of p
 abbrev pub listed : List ℕ → ℕ → ℕ → Bool
 listed words p q = flag (getD words p 0) q
 
+-- the table of the rules: for each node of g its row has those that some rule fits with it
+abbrev pub Ruling : Graph → List Rule → List ℕ → Type 0
+Ruling g rules fits = (p q : ℕ) → p < length (g .nodes) → q < length (g .nodes) → (listed fits p q ≡ true) ↔ Ruled rules (label g p) (label g q)
+
 -- the tables of g without the edges in c, and of the rules
 pub record WordsOf (g : Graph) (rules : List Rule) (c succ fits : List ℕ) : Type 0 where
   pub sound : Sound g
   pub steps : (p q : ℕ) → (listed succ p q ≡ true) ↔ Step g c p q
-  pub ruled : (p q : ℕ) → p < length (g .nodes) → q < length (g .nodes) → (listed fits p q ≡ true) ↔ Ruled rules (label g p) (label g q)
+  pub ruled : Ruling g rules fits
 
 -- ---- what they are filled from
 
@@ -40,3 +46,7 @@ labelAt ns p = getD ns p (record { label = Fence }) .label
 -- p and q are among the first n nodes, and some rule fits their labels
 abbrev pub fitIn : List Node → ℕ → List Rule → ℕ → ℕ → Bool
 fitIn ns n rs p q = ltb p n && (ltb q n && ruledb rs (labelAt ns p) (labelAt ns q))
+
+-- the table of the rules is filled from a graph by value
+abbrev pub Fitted : Value.Graph → List ℕ → Type 0
+Fitted g fits = (p q : ℕ) → listed fits p q ≡ fitIn (g .nodes) (g .«node_count») (rulesOf g) p q

@@ -22,9 +22,9 @@ ghost use Rattle.flags.specs.Flag.{flag};
 ghost use Rattle.graph.specs.Fit.{wantOf};
 ghost use Rattle.graph.specs.Graph.{Sound};
 ghost use Rattle.graph.specs.Limits.{most-nodes, most-edges, most-rules};
-ghost use Rattle.graph.specs.Value.{graphOf, rulesOf, Sized, Ends};
+ghost use Rattle.graph.specs.Value.{graphOf, Sized, Ends};
 ghost use Rattle.sets.specs.Whole.{whole, rows};
-ghost use Rattle.words.specs.Words.{listed, Led, labelAt, fitIn};
+ghost use Rattle.words.specs.Words.{listed, Led, labelAt, fitIn, Fitted};
 ghost use Rattle.words.specs.Rows.{matchb, addressedb, nearb, namesb, part, RowOf, Rights};
 
 // A set for each node.
@@ -218,7 +218,7 @@ pub fn succ_of(g: Graph) -> Sets
 // For each node of a graph the nodes that some rule fits with it.
 pub fn fits_of(g: Graph) -> Sets
     requires { ⌜ Sized g ⌝ }
-    ensures { λ r. ⌜ ((p q : ℕ) → listed (rows r) p q ≡ fitIn (g .nodes) (g .«node_count») (rulesOf g) p q) ⌝ }
+    ensures { λ r. ⌜ Fitted g (rows r) ⌝ }
 {
     let nodes = g.nodes;
     let rules = g.rules;

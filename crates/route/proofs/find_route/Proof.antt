@@ -18,16 +18,16 @@ use Rattle.route.proofs.find_route.Statement.{statement}
 use Rattle.route.proofs.find_route.Tie as tie
 
 abbrev Inv-loop2 : tie.InvT-loop2
-Inv-loop2 from to links left a goal via₀ out₀ n dist₀ count₀ i u d e₀ via out dist count e = Looking from to left goal i u d dist via out count e
+Inv-loop2 from to links left a goal out₀ n via₀ dist₀ count₀ i u d e₀ out via dist count e = Looking from to left goal i u d dist via out count e
 
 abbrev μ-loop2 : tie.MeasureT-loop2
-μ-loop2 from to links left a goal via₀ out₀ n dist₀ count₀ i u d e₀ via out dist count e = length from - e
+μ-loop2 from to links left a goal out₀ n via₀ dist₀ count₀ i u d e₀ out via dist count e = length from - e
 
 abbrev Inv-loop : tie.InvT-loop
-Inv-loop from to links left a goal via₀ out₀ n dist₀ count₀ i₀ via out dist count i = Spread from to left goal dist via out count i 0 × (65535 ≤ getD dist a 0)
+Inv-loop from to links left a goal out₀ n via₀ dist₀ count₀ i₀ out via dist count i = Spread from to left goal dist via out count i 0 × (65535 ≤ getD dist a 0)
 
 abbrev μ-loop : tie.MeasureT-loop
-μ-loop from to links left a goal via₀ out₀ n dist₀ count₀ i₀ via out dist count i = most-nodes - i
+μ-loop from to links left a goal out₀ n via₀ dist₀ count₀ i₀ out via dist count i = most-nodes - i
 
 -- while the edges that end at a node are looked at
 module _ (l : tie.At-loop2 Inv-loop2 μ-loop2 Inv-loop μ-loop) where
@@ -35,7 +35,7 @@ module _ (l : tie.At-loop2 Inv-loop2 μ-loop2 Inv-loop μ-loop) where
   turn = l .before .before .before .before .before
 
   abbrev start : tie.Start Inv-loop2 μ-loop2 Inv-loop μ-loop
-  start = turn .before .before .before .before .before .before .before .before
+  start = turn .before .before .before .before .before .before
 
   abbrev net : Net (start .args .from .now) (start .args .to .now)
   net = start .pre .0 .0
@@ -61,7 +61,7 @@ module _ (w : tie.After-wide3 Inv-loop2 μ-loop2 Inv-loop μ-loop) where
 at-node : (c : tie.After-wide Inv-loop2 μ-loop2 Inv-loop μ-loop) → c .wide .result < most-nodes
 at-node c =
     let l = c .before .before .before in
-    let st = l .before .before .before .before .before .before .before in
+    let st = l .before .before .before .before .before in
     node-known _ _ _ _ _ (st .pre .0 .0) (st .pre .0 .1) _ _ _ _ _ _ 0 (l .loop .inv .0) (omega (arith, c .before .before .loop-test .taken)) (c .wide .ensures .0)
 
 ends-left-requires : tie.Need-ends-left-requires Inv-loop2 μ-loop2 Inv-loop μ-loop
@@ -89,8 +89,8 @@ element-write-out c = search needs
 
 loop-holds : tie.Need-loop-holds Inv-loop2 μ-loop2 Inv-loop μ-loop
 loop-holds c =
-    let st = c .before .before .before .before .before .before in
-    (spread-start _ _ _ _ _ _ (st .args .out .now) _ _ (st .pre .1 .0 .1) refl refl (st .pre .1 .1) (c .sized .ensures) refl, start-far _ _ _ refl (st .pre .1 .0 .0) (st .pre .1 .0 .2))
+    let st = c .before .before .before .before in
+    (spread-start _ _ _ _ _ _ (st .args .out .now) _ _ (st .pre .1 .0 .1) refl refl (st .pre .1 .1) refl refl, start-far _ _ _ refl (st .pre .1 .0 .0) (st .pre .1 .0 .2))
 
 mul-wide : tie.Need-mul-wide Inv-loop2 μ-loop2 Inv-loop μ-loop
 mul-wide c = search needs
@@ -120,7 +120,7 @@ loop2-holds : tie.Need-loop2-holds Inv-loop2 μ-loop2 Inv-loop μ-loop
 loop2-holds c =
     let w = c .before .before in
     let l = w .before .before .before in
-    let st = l .before .before .before .before .before .before .before in
+    let st = l .before .before .before .before .before in
     look-start _ _ _ _ _ (st .pre .0 .0) (st .pre .0 .1) _ _ _ _ _ _ _ (l .loop .inv .0) (omega (arith, w .before .before .loop-test .taken)) (w .wide .ensures .0) (c .wide2 .ensures .0)
 
 mul-if2 : tie.Need-mul-if2 Inv-loop2 μ-loop2 Inv-loop μ-loop
@@ -162,8 +162,8 @@ cast-via c = search needs
 mul-via : tie.Need-mul-via Inv-loop2 μ-loop2 Inv-loop μ-loop
 mul-via c = search needs
 
-element-write-via : tie.Need-element-write-via Inv-loop2 μ-loop2 Inv-loop μ-loop
-element-write-via c = within (c .before)
+array-write-via : tie.Need-array-write-via Inv-loop2 μ-loop2 Inv-loop μ-loop
+array-write-via c = within (c .before)
 
 mul-out : tie.Need-mul-out Inv-loop2 μ-loop2 Inv-loop μ-loop
 mul-out c = search needs
@@ -242,11 +242,8 @@ loop-again c = (looked (c .before), omega (arith, c .if4 .left))
 returns-3 : tie.Need-returns-3 Inv-loop2 μ-loop2 Inv-loop μ-loop
 returns-3 c =
     let l = c .before in
-    let st = l .before .before .before .before .before .before .before in
+    let st = l .before .before .before .before .before in
     (l .loop .inv .0 .room, none-found _ _ _ _ _ _ (spread-none _ _ _ _ _ _ _ _ _ _ (l .loop .inv .0) (st .pre .0 .0) (omega (arith, c .loop-test .left)) _ (l .loop .inv .1)))
-
-sized-requires : tie.Need-sized-requires Inv-loop2 μ-loop2 Inv-loop μ-loop
-sized-requires c κs = search needs
 
 pub find-route-spec : {M : Type 1} → statement M
 find-route-spec =
@@ -258,7 +255,6 @@ find-route-spec =
     μ-loop
     ends-left-requires
     returns
-    sized-requires
     mul-dist
     array-write-dist
     cast-out
@@ -285,7 +281,7 @@ find-route-spec =
     array-write-dist-2
     cast-via
     mul-via
-    element-write-via
+    array-write-via
     mul-out
     element-write-out-2
     add-count

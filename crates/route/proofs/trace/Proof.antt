@@ -1,17 +1,17 @@
 -- `route::trace` meets its contract: the route, edge by edge.
 -- Assumes nothing.
 use mathlib.Core.Path.{_≡_, refl, ap, _∙_}
-use Prim.Native.Nat.{ℕ, _+_, _-_, _<_, _≤_}
+use Prim.Native.Nat.{ℕ, _+_, _-_, _<_}
 use native.Mathlib.Omega.{arith}
-use lib.ListN.{getD}
+use lib.ListN.{length, getD}
 use Rattle.graph.specs.Limits.{most-nodes}
-use Rattle.route.proofs.Traced.{trace-edge, trace-more, trace-end, Traced, traced-none}
+use Rattle.route.proofs.Traced.{Traced, trace-edge, trace-more, trace-end}
 use borrow.Author.Needs.{needs}
 use Rattle.route.proofs.trace.Statement.{statement}
 use Rattle.route.proofs.trace.Tie as tie
 
 abbrev Inv-loop : tie.InvT-loop
-Inv-loop from to left a goal dist via out₀ n at₀ i₀ out at i = (i ≤ n) × (at < most-nodes) × (getD dist at 0 + i ≡ n) × (n < most-nodes) × Traced from to left a out at i
+Inv-loop from to left a goal dist via out₀ n at₀ i₀ out at i = (at < most-nodes) × (getD dist at 0 + i ≡ n) × (n < most-nodes) × (length out ≡ most-nodes) × Traced from left out i
 
 abbrev μ-loop : tie.MeasureT-loop
 μ-loop from to left a goal dist via out₀ n at₀ i₀ out at i = n - i
@@ -29,7 +29,7 @@ loop-holds : tie.Need-loop-holds Inv-loop μ-loop
 loop-holds c =
     let st = c .before .before .before .before in
     let w = c .wide .ensures in
-    (omega arith, st .pre .1 .0 .0, omega (arith, w .0), omega (arith, w .0, st .pre .1 .0 .2), traced-none _ _ _ _ _ (st .pre .1 .1))
+    (st .pre .1 .0 .0, omega (arith, w .0), omega (arith, w .0, st .pre .1 .0 .2), st .pre .1 .1, λ k h. absurd (omega arith))
 
 mul-e : tie.Need-mul-e Inv-loop μ-loop
 mul-e c = search needs
@@ -54,7 +54,7 @@ shared-slice-read-wide c =
     let l = c .before .before .before .before in
     let st = l .before .before .before .before .before in
     let i = l .loop .inv in
-    omega (arith, st .pre .0 .0 .both, trace-edge _ _ _ _ (st .pre .0 .0) _ _ (st .pre .0 .1) (st .args .a) _ _ _ (l .loop .out) (c .before .before .before .loop-test .taken) (i .3) (i .1) (i .2) _ (c .before .wide2 .ensures .0) .0)
+    omega (arith, st .pre .0 .0 .both, trace-edge _ _ _ _ _ _ (st .pre .0 .1) _ _ _ (c .before .before .before .loop-test .taken) (i .2) (i .0) (i .1) _ (c .before .wide2 .ensures .0) .0)
 
 wide-requires-3 : tie.Need-wide-requires-3 Inv-loop μ-loop
 wide-requires-3 c κs = search needs
@@ -70,14 +70,14 @@ loop-again c =
     let l = c .before .before .before .before .before in
     let st = l .before .before .before .before .before in
     let i = l .loop .inv in
-    trace-more _ _ _ _ (st .pre .0 .0) _ _ (st .pre .0 .1) _ _ _ _ _ (c .before .before .before .before .loop-test .taken) (i .3) (i .1) (i .2) _ refl _ (c .wide3 .ensures .0 ∙ ap (λ (x : ℕ). getD (st .args .to .now) x 0) (c .before .before .wide2 .ensures .0)) (i .4)
+    trace-more _ _ _ _ _ _ (st .pre .0 .1) _ _ _ (c .before .before .before .before .loop-test .taken) (i .2) (i .0) (i .1) _ refl (l .loop .out) _ (st .pre .0 .0) (c .wide3 .ensures .0 ∙ ap (λ (x : ℕ). getD (st .args .to .now) x 0) (c .before .before .wide2 .ensures .0)) (i .3) (i .4)
 
 returns : tie.Need-returns Inv-loop μ-loop
 returns c =
     let l = c .before in
     let st = l .before .before .before .before .before in
     let i = l .loop .inv in
-    (i .4 .long, trace-end _ _ _ _ (st .pre .0 .0) _ _ (st .pre .0 .1) _ _ _ _ _ (st .pre .1 .0 .0) (st .pre .1 .0 .1) (l .before .wide .ensures .0) (i .3) (i .1) (omega (arith, i .0, c .loop-test .left)) (i .2) (i .4))
+    (i .3, trace-end _ _ _ _ _ _ (st .pre .0 .1) _ _ _ _ (st .pre .1 .0 .0) (st .pre .1 .0 .1) (l .before .wide .ensures .0) (i .2) (omega (arith, c .loop-test .left)) (i .4))
 
 pub trace-spec : {M : Type 1} → statement M
 trace-spec =

@@ -13,10 +13,10 @@ use Rattle.walk.proofs.open_orders.Statement.{statement}
 use Rattle.walk.proofs.open_orders.Tie as tie
 
 abbrev Inv-loop : tie.InvT-loop
-Inv-loop succ fits scratch₀ n orders open₀ i₀ i-end scratch «open» i = (i ≤ i-end) × (length «open» ≡ most-orders) × ((j : ℕ) → j < i → Judged (rows succ) (rows fits) orders «open» j)
+Inv-loop fits lent₀ succ n orders open₀ i₀ i-end lent «open» i = (i ≤ i-end) × (length «open» ≡ most-orders) × ((j : ℕ) → j < i → Judged (rows succ) (rows fits) orders «open» j)
 
 abbrev μ-loop : tie.MeasureT-loop
-μ-loop succ fits scratch₀ n orders open₀ i₀ i-end scratch «open» i = i-end - i
+μ-loop fits lent₀ succ n orders open₀ i₀ i-end lent «open» i = i-end - i
 
 long : (c : tie.After-open-route Inv-loop μ-loop) → length (c .open-route .result .nodes) ≡ most-nodes
 long c = search needs
@@ -26,31 +26,33 @@ loop-holds c = (search needs, refl, λ j h. absurd (omega (arith, h)))
 
 open-route-requires : tie.Need-open-route-requires Inv-loop μ-loop
 open-route-requires c κs =
-    let n = c .before .before .before .before .before .before in
-    let s = n .before .before .before .before .before in
-    let ends = all-named (s .args .g) _ (nodes-few (s .args .g) (s .pre .0)) (s .pre .2) (n .before .loop .i) (n .loop-test .taken) in
+    let n = c .before .before .before .before .before in
+    let s = n .before .before .before .before in
+    let p = s .pre .0 in
+    let ends = all-named (s .args .g) _ (nodes-few (s .args .g) (p .0)) (p .2) (n .before .loop .i) (n .loop-test .taken) in
     (search needs, ends .0, ends .1)
 
 loop-again : tie.Need-loop-again Inv-loop μ-loop
 loop-again c =
     let o = c .before in
-    let n = o .before .before .before .before .before .before .before in
+    let n = o .before .before .before .before .before .before in
     let l = n .before .loop in
     let f = n .before .before .before in
-    let s = f .before .before in
+    let s = f .before in
     let room : length (o .open-route .result .nodes) ≡ most-nodes = long o in (
       search needs,
       length-set (l .«open») (l .i) _ ∙ l .inv .1,
-      judged-more (rows (f .before .succ-of .result)) (rows (f .fits-of .result)) (s .args .g .orders) (l .«open») (l .i) (o .open-route .result) (l .inv .2) (search needs) (omega (arith, o .open-route .ensures .0)) (o .open-route .ensures .1),
+      judged-more (rows (f .succ-of .result)) (rows (s .args .fits .now)) (s .args .g .orders) (l .«open») (l .i) (o .open-route .result) (l .inv .2) (search needs) (omega (arith, o .open-route .ensures .0)) (o .open-route .ensures .1),
     )
 
 returns : tie.Need-returns Inv-loop μ-loop
 returns c =
     let f = c .before .before .before in
-    let s = f .before .before in
+    let s = f .before in
+    let p = s .pre .0 in
     let e : c .before .loop .i ≡ s .args .g .«order_count» = omega arith in
-    judged-told (s .args .g) (s .pre .0) (rows (f .before .succ-of .result)) (rows (f .fits-of .result)) (c .before .loop .«open»)
-    (words-made (s .args .g) (s .pre .0) (s .pre .1) (rows (f .before .succ-of .result)) (rows (f .fits-of .result)) (f .before .succ-of .ensures) (f .fits-of .ensures))
+    judged-told (s .args .g) (p .0) (rows (f .succ-of .result)) (rows (s .args .fits .now)) (c .before .loop .«open»)
+    (words-made (s .args .g) (p .0) (p .1) (rows (f .succ-of .result)) (rows (s .args .fits .now)) (f .succ-of .ensures) (s .pre .1))
     (λ j h. c .before .loop .inv .2 j (omega arith))
 
 pub open-orders-spec : {M : Type 1} → statement M
@@ -60,7 +62,6 @@ open-orders-spec =
     Inv-loop
     μ-loop
     (λ c κs. search needs)  -- succ-of-requires
-    (λ c κs. search needs)  -- fits-of-requires
     loop-holds
     (λ c. search needs)  -- mul-order
     (λ c. search needs)  -- array-copy-out-order

@@ -1,4 +1,5 @@
 -- `walk::open_route` meets its contract: the walk from the order's first node.
+use mathlib.Core.List.{List}
 use mathlib.Core.Path.{_≡_, ap, _∙_}
 use Prim.Native.Nat.{ℕ}
 use native.Mathlib.Omega.{arith}
@@ -9,6 +10,7 @@ use Rattle.flags.proofs.Put.{put-zero-count}
 use Rattle.sets.specs.Whole.{whole, rows}
 use Rattle.sets.proofs.Rows.{row-at}
 use Rattle.walk.proofs.First.{none-asked, one-asked}
+use Rattle.walk.proofs.Sought.{Sought, none-sought, one-sought}
 use borrow.Author.Needs.{needs}
 use Rattle.walk.proofs.open_route.Statement.{statement}
 use Rattle.walk.proofs.open_route.Tie as tie
@@ -27,7 +29,9 @@ returns : tie.Need-returns
 returns c =
     let w = begun (c .before) in
     let s = start w .args in
-    (omega arith, λ g rules k words. none-asked (rows (s .succ .now)) (rows (s .fits .now)) words (s .a) (s .b) (rw (started w, ← (row-at (s .fits .now) (s .a))) at (c .before .hopeful .ensures (not-true _ (c .if1 .taken)))))
+    let nothing : (l : List ℕ) → Sought (rows (s .succ .now)) (rows (s .fits .now)) (s .a) (s .b) l → ⊥ =
+    rw (started w, ← (row-at (s .fits .now) (s .a))) at (c .before .hopeful .ensures (not-true _ (c .if1 .taken))) in
+    (omega arith, λ g rules k words. none-asked (rows (s .succ .now)) (rows (s .fits .now)) words (s .a) (s .b) nothing, none-sought (rows (s .succ .now)) (rows (s .fits .now)) (s .a) (s .b) nothing)
 
 abbrev hoped : tie.After-trial → tie.After-with
 hoped c = begun (c .before .before .before .before .before .before .before)
@@ -36,16 +40,21 @@ returns-2 : tie.Need-returns-2
 returns-2 c =
     let w = hoped (c .before) in
     let s = start w .args in
-    (omega arith, λ g rules k words. none-asked (rows (s .succ .now)) (rows (s .fits .now)) words (s .a) (s .b) (rw (started w, ← (row-at (s .fits .now) (s .a))) at (c .before .trial .ensures .0 .none (not-true _ (c .if2 .taken)))))
+    let nothing : (l : List ℕ) → Sought (rows (s .succ .now)) (rows (s .fits .now)) (s .a) (s .b) l → ⊥ =
+    rw (started w, ← (row-at (s .fits .now) (s .a))) at (c .before .trial .ensures .0 .none (not-true _ (c .if2 .taken))) in
+    (omega arith, λ g rules k words. none-asked (rows (s .succ .now)) (rows (s .fits .now)) words (s .a) (s .b) nothing, none-sought (rows (s .succ .now)) (rows (s .fits .now)) (s .a) (s .b) nothing)
 
 returns-3 : tie.Need-returns-3
 returns-3 c =
     let tr = c .before .before in
     let w = hoped tr in
     let s = start w .args in
-    let n : ones (whole (w .with .result)) ≡ 1 = ap ones (started w) ∙ put-zero-count (s .a) in (
+    let n : ones (whole (w .with .result)) ≡ 1 = ap ones (started w) ∙ put-zero-count (s .a) in
+    let found = rw (n, started w, ← (row-at (s .fits .now) (s .a))) at (tr .trial .ensures .0) in
+    let way = not-false _ (c .before .if2 .left) in (
       c .size .ensures .1,
-      λ g rules k words. rw (c .size .ensures .0) (one-asked (rows (s .succ .now)) (rows (s .fits .now)) words (s .a) (s .b) (not-false _ (c .before .if2 .left)) (rw (n, started w, ← (row-at (s .fits .now) (s .a))) at (tr .trial .ensures .0))),
+      λ g rules k words. rw (c .size .ensures .0) (one-asked (rows (s .succ .now)) (rows (s .fits .now)) words (s .a) (s .b) way found),
+      rw (c .size .ensures .0) (one-sought (rows (s .succ .now)) (rows (s .fits .now)) (s .a) (s .b) way found),
     )
 
 pub open-route-spec : {M : Type 1} → statement M

@@ -5,50 +5,29 @@ use mathlib.Core.Path.{subst⁻¹}
 use Prim.Native.Nat.{ℕ, _<_}
 use native.Mathlib.Omega.{arith}
 use Rattle.lightest.specs.Sets.{Has}
-use Rattle.fence.proofs.Fenced.{ready-orderly, full-nodes, full-edges, short-buffer, file-written}
+use Rattle.fence.proofs.Fenced.{full-nodes, full-edges, short-buffer, file-written}
 use borrow.Author.Needs.{needs}
 use Rattle.fence.proofs.running.run.Statement.{statement}
 use Rattle.fence.proofs.running.run.Tie as tie
 
-open-orders-requires : tie.Need-open-orders-requires
-open-orders-requires c κs = search needs
-
 chosen-cut-requires : tie.Need-chosen-cut-requires
 chosen-cut-requires c κs =
-    let s = c .before .before in
-    ((s .pre .sized, s .pre .proper .sound), (ready-orderly (s .args .g) (s .pre), c .open-orders .ensures))
-
-flags-requires : tie.Need-flags-requires
-flags-requires c κs = search needs
-
-count-requires : tie.Need-count-requires
-count-requires c κs = search needs
-
-add-if1 : tie.Need-add-if1
-add-if1 c = search needs
-
-refused-requires : tie.Need-refused-requires
-refused-requires c κs = search needs
+    let p = c .before .pre in
+    (p .sized, p .proper .sound, p .proper .orderly)
 
 returns : tie.Need-returns
 returns c =
     let k = c .before .before .before in
     let cut = k .before .before in
-    let s = cut .before .before .before in
+    let s = cut .before .before in
     full-nodes (s .args .g) (s .pre) _ (cut .chosen-cut .ensures) _ (k .before .flags .ensures) _ (k .count .ensures .0) _ (c .before .if1 .taken) _ (c .refused .ensures)
-
-add-if2 : tie.Need-add-if2
-add-if2 c = search needs
-
-refused-requires-2 : tie.Need-refused-requires-2
-refused-requires-2 c κs = search needs
 
 returns-2 : tie.Need-returns-2
 returns-2 c =
     let t = c .before in
     let k = t .before .before .before .before in
     let cut = k .before .before in
-    let s = cut .before .before .before in
+    let s = cut .before .before in
     full-edges (s .args .g) (s .pre) _ (cut .chosen-cut .ensures) _ (k .before .flags .ensures) _ (k .count .ensures .0) _ (t .if2 .taken) _ (c .refused2 .ensures)
 
 put-on-requires : tie.Need-put-on-requires
@@ -56,14 +35,8 @@ put-on-requires c κs =
     let e = c .before .before in
     let k = e .before .before in
     let cut = k .before .before in
-    let s = cut .before .before .before in
+    let s = cut .before .before in
     ((s .pre .sized, s .pre .roomy), (subst⁻¹ (λ (l : List Bool). (e : ℕ) → Has l e → e < s .args .g .«edge_count») (k .before .flags .ensures) (cut .chosen-cut .ensures .below), (omega (arith, k .count .ensures .0, e .if1 .left), omega (arith, k .count .ensures .0, c .if2 .left))))
-
-size-of-requires : tie.Need-size-of-requires
-size-of-requires c κs = search needs
-
-refused-requires-3 : tie.Need-refused-requires-3
-refused-requires-3 c κs = search needs
 
 returns-3 : tie.Need-returns-3
 returns-3 c =
@@ -73,18 +46,9 @@ returns-3 c =
     let e1 = e2 .before .before in
     let k = e1 .before .before in
     let cut = k .before .before in
-    let s = cut .before .before .before in
+    let s = cut .before .before in
     short-buffer (s .args .g) (s .pre) _ (cut .chosen-cut .ensures) _ (k .before .flags .ensures) _ (k .count .ensures .0) _ (omega (arith, e1 .if1 .left)) (omega (arith, e2 .if2 .left))
     _ (h .put-on .ensures .0) (h .put-on .ensures .1 .0) (omega (arith, t .if3 .taken, t .before .size-of .ensures .0)) _ (c .refused3 .ensures)
-
-write-request-requires : tie.Need-write-request-requires
-write-request-requires c κs = search needs
-
-cast-t18 : tie.Need-cast-t18
-cast-t18 c = search needs
-
-same-length : tie.Need-same-length
-same-length c = search needs
 
 returns-4 : tie.Need-returns-4
 returns-4 c =
@@ -95,7 +59,7 @@ returns-4 c =
     let e1 = e2 .before .before in
     let k = e1 .before .before in
     let cut = k .before .before in
-    let s = cut .before .before .before in
+    let s = cut .before .before in
     file-written (s .args .g) (s .pre) _ (cut .chosen-cut .ensures) _ (k .before .flags .ensures) _ (k .count .ensures .0) _ (omega (arith, e1 .if1 .left)) (omega (arith, e2 .if2 .left))
     _ (h .put-on .ensures .0) (h .put-on .ensures .1 .0) _ _ (w .write-request .ensures .1)
 
@@ -103,21 +67,20 @@ pub run-spec : {M : Type 1} → statement M
 run-spec =
     tie.close
     (tie.spec
-    open-orders-requires
     chosen-cut-requires
-    flags-requires
-    count-requires
-    add-if1
-    refused-requires
+    (λ c κs. search needs)  -- flags-requires
+    (λ c κs. search needs)  -- count-requires
+    (λ c. search needs)  -- add-if1
+    (λ c κs. search needs)  -- refused-requires
     returns
-    add-if2
-    refused-requires-2
+    (λ c. search needs)  -- add-if2
+    (λ c κs. search needs)  -- refused-requires-2
     returns-2
     put-on-requires
-    size-of-requires
-    refused-requires-3
+    (λ c κs. search needs)  -- size-of-requires
+    (λ c κs. search needs)  -- refused-requires-3
     returns-3
-    write-request-requires
-    cast-t18
-    same-length
+    (λ c κs. search needs)  -- write-request-requires
+    (λ c. search needs)  -- cast-t17
+    (λ c. search needs)  -- same-length
     returns-4)

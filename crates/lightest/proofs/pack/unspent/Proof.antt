@@ -14,10 +14,10 @@ use Rattle.lightest.proofs.pack.unspent.Statement.{statement}
 use Rattle.lightest.proofs.pack.unspent.Tie as tie
 
 abbrev Inv-loop : tie.InvT-loop
-Inv-loop ws r₀ chosen n e₀ r e = (e ≤ n) × Spared ws (edgesOf chosen) (r .left) e
+Inv-loop ws chosen r₀ n e₀ r e = (e ≤ n) × Spared ws (edgesOf chosen) (r .left) e
 
 abbrev μ-loop : tie.MeasureT-loop
-μ-loop ws r₀ chosen n e₀ r e = n - e
+μ-loop ws chosen r₀ n e₀ r e = n - e
 
 loop-holds : tie.Need-loop-holds Inv-loop μ-loop
 loop-holds c = (omega arith, spared-none _ _)
@@ -25,9 +25,9 @@ loop-holds c = (omega arith, spared-none _ _)
 loop-again : tie.Need-loop-again Inv-loop μ-loop
 loop-again c =
     let h = c .before in
-    let n = h .before .before in
+    let n = h .before in
     let i = n .before .loop .inv in
-    let same = flags-at most-edges _ (n .before .loop .e) (omega (arith, n .loop-test .taken, n .before .before .before .before .pre)) ∙ sym (h .has .ensures) in
+    let same = flags-at most-edges _ (n .before .loop .e) (omega (arith, n .loop-test .taken, n .before .before .before .pre)) ∙ sym (h .has .ensures) in
     ⊎-elim (λ w. rw (w .2) (omega arith, spared-out _ _ _ _ (i .1) (omega arith) (same ∙ not-true _ (w .0 .taken))))
     (λ w. rw (w .1) (omega arith, spared-has _ _ _ _ (i .1) (same ∙ not-false _ (w .0 .left))))
     (c .if1 .came)

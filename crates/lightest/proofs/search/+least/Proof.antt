@@ -3,7 +3,7 @@
 use mathlib.Core.Bool.{true, false, Bool, true≢false}
 use mathlib.Core.List.{List}
 use mathlib.Core.Logic.{⊎-elim}
-use mathlib.Core.Path.{_≡_, refl, sym, ap, subst⁻¹, _∙_}
+use mathlib.Core.Path.{_≡_, refl, sym, ap, subst, subst⁻¹, _∙_}
 use Prim.Native.Nat.{_-_, _≤_, ℕ, _<_, _+_}
 use native.Mathlib.Nat.{pos-of-ne-zero}
 use native.Mathlib.Omega.{arith}
@@ -11,14 +11,15 @@ use lib.ListN.{length, getD}
 use borrow.Author.Needs.{needs}
 use borrow.Fn.Kinds.{In}
 use borrow.Fn.PlainCycle.{Measures, is, falls, and}
-use Rattle.sets.specs.Whole.{whole}
+use Rattle.sets.specs.Whole.{whole, rows}
 use Rattle.graph.specs.Limits.{most-edges}
 use Rattle.graph.proofs.Splits.{true-false}
 use Rattle.lightest.specs.declared.Pick as Weighed
 use Rattle.lightest.specs.Apart.{Apart}
-use Rattle.lightest.specs.Made.{Made, cutOf, pickOf}
-use Rattle.lightest.specs.Search.{Picked}
-use Rattle.lightest.proofs.Grown.{grown}
+use Rattle.lightest.specs.Made.{Cut, Made, cutAt, flagsFrom, pickOf}
+use Rattle.lightest.specs.Search.{Levelled, Picked}
+use Rattle.lightest.proofs.Flags.{flags-set}
+use Rattle.lightest.proofs.Grown.{grown, made-by}
 use Rattle.lightest.proofs.Tried.{Tried, Deeper, lighter-first, pick-all, pick-leaf, pick-low, pick-tight, tried-heavy, tried-hit, tried-light, tried-miss, tried-none, tried-skip, tried-up}
 use Rattle.lightest.proofs.search.+least.{statement}
 use Rattle.lightest.proofs.search.+least.Tie.{close}
@@ -28,41 +29,49 @@ use Rattle.lightest.proofs.search.+least.Lts-least as least-lts
 use Rattle.lightest.proofs.search.level_of.Reads as level-of-reads
 use Rattle.sets.proofs.wide.has.Reads as has-reads
 use Rattle.lightest.proofs.pack.wider.Reads as wider-reads
-use Rattle.lightest.proofs.Cut.with_edge.Reads as with-edge-reads
+use Rattle.sets.proofs.wide.put_in.Reads as put-in-reads
 use Rattle.lightest.proofs.Pick.lighter.Reads as lighter-reads
 
-abbrev μ-least : Measures 7 least-kinds.ps ℕ
-μ-least κs a = a .1 .1 .1 .1 .1 .1 .1 .0
+abbrev μ-least : Measures 11 least-kinds.ps ℕ
+μ-least κs a = a .1 .1 .1 .1 .1 .1 .1 .1 .1 .1 .0
 
-abbrev least-at : ℕ → In 7 least-kinds.ps
-least-at t = and 7 least-kinds.ps (is 7 least-kinds.ps μ-least t) least.Pre
+abbrev least-at : ℕ → In 11 least-kinds.ps
+least-at t = and 11 least-kinds.ps (is 11 least-kinds.ps μ-least t) least.Pre
 
-abbrev least-below : ℕ → In 7 least-kinds.ps
-least-below t = and 7 least-kinds.ps (falls 7 least-kinds.ps _<_ μ-least t) least.Pre
+abbrev least-below : ℕ → In 11 least-kinds.ps
+least-below t = and 11 least-kinds.ps (falls 11 least-kinds.ps _<_ μ-least t) least.Pre
 
 abbrev least-Inv-loop : least-lts.InvT-loop
-least-Inv-loop from to links ws firsts seconds s allowance best₀ found₀ b sum n rest₀ e₀ best found rest e = (e ≤ n) × Tried ws (Apart from to firsts seconds) (cutOf s) allowance (whole (b .route)) (pickOf found best) rest e × (found .found ≡ false → best ≡ best₀)
+least-Inv-loop from to ins on fits ws us vs chosen weight allowance kept₀ best₀ found₀ b sum n rest₀ e₀ kept best found rest e = (e ≤ n) × Tried ws (Apart from to (rows fits) us vs) (cutAt chosen weight) allowance (whole (b .route)) (pickOf found best) rest e × (found .found ≡ false → best ≡ best₀)
 
 abbrev least-μ-loop : least-lts.MeasureT-loop
-least-μ-loop from to links ws firsts seconds s allowance best₀ found₀ b sum n rest₀ e₀ best found rest e = n - e
+least-μ-loop from to ins on fits ws us vs chosen weight allowance kept₀ best₀ found₀ b sum n rest₀ e₀ kept best found rest e = n - e
 
 abbrev calls : ℕ → least-lts.Claims
-calls t = (level-of-reads.Asked, level-of-reads.Learnt, has-reads.Asked, has-reads.Learnt, wider-reads.Asked, wider-reads.Learnt, with-edge-reads.Asked, with-edge-reads.Learnt, least-below t, least.Post, lighter-reads.Asked, lighter-reads.Learnt)
+calls t = (level-of-reads.Asked, level-of-reads.Learnt, has-reads.Asked, has-reads.Learnt, wider-reads.Asked, wider-reads.Learnt, put-in-reads.Asked, put-in-reads.Learnt, least-below t, least.Post, lighter-reads.Asked, lighter-reads.Learnt)
 
 module _ (t : ℕ) where
   -- what is known once there is a bound
   module _ (b : least-lts.After-level-of (calls t) (least-at t) least.Post least-Inv-loop least-μ-loop) where
     abbrev start : least-lts.Start (calls t) (least-at t) least.Post least-Inv-loop least-μ-loop
-    start = b .before .before .before .before .before .before
+    start = b .before .before .before .before .before .before .before
 
     abbrev ws : List ℕ
     ws = start .args .ws .now
 
     abbrev P : List Bool → Type 0
-    P = Apart (start .args .from .now) (start .args .to .now) (start .args .firsts .now) (start .args .seconds .now)
+    P = Apart (start .args .from .now) (start .args .to .now) (rows (start .args .fits .now)) (start .args .us .now) (start .args .vs .now)
 
-    abbrev made : Made ws (cutOf (start .args .s))
+    -- the cut so far
+    abbrev so-far : Cut
+    so-far = cutAt (start .args .chosen .now) (start .args .weight)
+
+    abbrev made : Made ws so-far
     made = start .pre .1 .1 .0
+
+    -- what the level knows of it
+    levelled : Levelled ws P so-far (whole (b .level-of .result .route)) (b .level-of .result .len) (b .level-of .result .sum)
+    levelled = subst (λ (v : ℕ). Levelled ws P (cutAt (start .args .chosen .now) v) (whole (b .level-of .result .route)) (b .level-of .result .len) (b .level-of .result .sum)) (made .sum) (b .level-of .ensures)
 
     few : length ws ≤ most-edges
     few = omega (arith, start .pre .1 .0 .net .few, start .pre .1 .0 .weights)
@@ -80,31 +89,31 @@ module _ (t : ℕ) where
 
     -- what the edges before tell, of the best and the rest given
     abbrev Tries : Weighed.Pick → List ℕ → ℕ → ℕ → Type 0
-    Tries found best rest e = Tried (ws level) (P level) (cutOf (start level .args .s)) (start level .args .allowance) (whole (level .level-of .result .route)) (pickOf found best) rest e
+    Tries found best rest e = Tried (ws level) (P level) (so-far level) (start level .args .allowance) (whole (level .level-of .result .route)) (pickOf found best) rest e
 
     abbrev tried : Tries (turn .loop .found) (turn .loop .best) (turn .loop .rest) (turn .loop .e)
     tried = turn .loop .inv .1
 
     -- an edge to go on with
-    known : h .has .result ≡ true → (turn .loop .e < length (ws level)) × (1 ≤ getD (ws level) (turn .loop .e) 0) × (getD (cutOf (start level .args .s) .chosen) (turn .loop .e) false ≡ false)
-    known f = level .level-of .ensures .edge (pos-of-ne-zero (turn .before .if2 .left)) (turn .loop .e) (sym (h .has .ensures) ∙ f)
+    known : h .has .result ≡ true → (turn .loop .e < length (ws level)) × (1 ≤ getD (ws level) (turn .loop .e) 0) × (getD (so-far level .chosen) (turn .loop .e) false ≡ false)
+    known f = levelled level .edge (pos-of-ne-zero (turn .before .if2 .left)) (turn .loop .e) (sym (h .has .ensures) ∙ f)
 
   -- what is known a level deeper
   module _ (r : least-lts.After-least (calls t) (least-at t) least.Post least-Inv-loop least-μ-loop) where
-    abbrev larger : least-lts.After-with-edge (calls t) (least-at t) least.Post least-Inv-loop least-μ-loop
-    larger = r .before .before
+    abbrev larger : least-lts.After-put-in (calls t) (least-at t) least.Post least-Inv-loop least-μ-loop
+    larger = r .before .before .before .before
 
     abbrev weighed : least-lts.After-wider (calls t) (least-at t) least.Post least-Inv-loop least-μ-loop
-    weighed = larger .before .before
+    weighed = larger .before .before .before .before
 
     abbrev hit : least-lts.After-has (calls t) (least-at t) least.Post least-Inv-loop least-μ-loop
     hit = weighed .before .before .before
 
     -- the edges written by then
     abbrev written : List ℕ
-    written = r .least .last .1 .1 .1 .1 .1 .1 .1 .1 .0
+    written = r .least .last .1 .1 .1 .1 .1 .1 .1 .1 .1 .1 .1 .1 .0
 
-    deeper : Deeper (ws (level hit)) (P (level hit)) (cutOf (start (level hit) .args .s)) (start (level hit) .args .allowance) (whole (level hit .level-of .result .route)) (pickOf (turn hit .loop .found) (turn hit .loop .best)) (turn hit .loop .rest) (turn hit .loop .e) (weighed .wider .result) (cutOf (larger .with-edge .result)) (pickOf (r .least .result) written)
+    deeper : Deeper (ws (level hit)) (P (level hit)) (so-far (level hit)) (start (level hit) .args .allowance) (whole (level hit .level-of .result .route)) (pickOf (turn hit .loop .found) (turn hit .loop .best)) (turn hit .loop .rest) (turn hit .loop .e) (weighed .wider .result) (cutAt (larger .put-in .last .0) (start (level hit) .args .weight + weighed .wider .result)) (pickOf (r .least .result) written)
     deeper = let k = known hit (weighed .before .before .if3 .taken) in record {
       few = few (level hit);
       made = made (level hit);
@@ -112,9 +121,9 @@ module _ (t : ℕ) where
       edge = k .0;
       some = k .1;
       out = k .2;
-      room = larger .before .if4 .taken;
-      chosen = larger .with-edge .ensures .0;
-      sum = larger .with-edge .ensures .1;
+      room = larger .before .before .before .if4 .taken;
+      chosen = ap (flagsFrom 0 most-edges) (larger .put-in .ensures) ∙ flags-set most-edges _ (turn hit .loop .e) (omega (arith, k .0, few (level hit)));
+      sum = refl;
       picked = r .least .ensures .0;
     }
 
@@ -129,14 +138,14 @@ module _ (t : ℕ) where
     heft : z .lighter .result .weight ≡ found-at .least .result .weight
     heft = ap (λ (x : Weighed.Pick). x .weight) won
 
-    up : start (level (hit found-at)) .args .s .weight + 1 ≤ z .lighter .result .weight
+    up : start (level (hit found-at)) .args .weight + 1 ≤ z .lighter .result .weight
     up = omega (arith, heft, tried-up (deeper found-at) (z .before .if5 .taken))
 
     found : z .lighter .result .found ≡ true
     found = ap (λ (x : Weighed.Pick). x .found) won ∙ z .before .if5 .taken
 
-    better : Tries (hit found-at) (z .lighter .result) (written found-at) (z .lighter .result .weight - start (level (hit found-at)) .args .s .weight - 1) (turn (hit found-at) .loop .e + 1)
-    better = subst⁻¹ (λ (x : Weighed.Pick). Tries (hit found-at) x (written found-at) (x .weight - start (level (hit found-at)) .args .s .weight - 1) (turn (hit found-at) .loop .e + 1)) won
+    better : Tries (hit found-at) (z .lighter .result) (written found-at) (z .lighter .result .weight - start (level (hit found-at)) .args .weight - 1) (turn (hit found-at) .loop .e + 1)
+    better = subst⁻¹ (λ (x : Weighed.Pick). Tries (hit found-at) x (written found-at) (x .weight - start (level (hit found-at)) .args .weight - 1) (turn (hit found-at) .loop .e + 1)) won
         (tried-hit (deeper found-at) (z .before .if5 .taken) _ (omega (arith, tried-up (deeper found-at) (z .before .if5 .taken))))
 
   -- an edge more, in each of the four ways
@@ -144,23 +153,23 @@ module _ (t : ℕ) where
   on c = let h = c .before in
       let l = turn h .loop in
       ⊎-elim (λ a.
-      let z : least-lts.After-lighter (calls t) (least-at t) least.Post least-Inv-loop least-μ-loop = record { before = record { before = record { before = record { before = record { before = record { before = record { before = record { before = record { before = h; if3 = a .0 }; shared-slice-known6 = a .1 }; wider = a .2 }; if4 = a .3 }; with-edge = a .4 }; least-arg = a .5 }; least = a .6 }; if5 = a .7 }; lighter = a .8 } in
-      rw (a .12, a .13, a .14) (better z, λ e. absurd (true-false (found z) e)))
+      let z : least-lts.After-lighter (calls t) (least-at t) least.Post least-Inv-loop least-μ-loop = record { before = record { before = record { before = record { before = record { before = record { before = record { before = record { before = record { before = record { before = record { before = record { before = record { before = h; if3 = a .0 }; shared-slice-known6 = a .1 }; wider = a .2 }; if4 = a .3 }; t = a .4 }; t2 = a .5 }; put-in = a .6 }; t3 = a .7 }; least-arg = a .8 }; least-arg2 = a .9 }; least = a .10 }; if5 = a .11 }; lighter = a .12 } in
+      rw (a .16, a .17, a .18) (better z, λ e. absurd (true-false (found z) e)))
       (⊎-elim (λ a.
-      let r : least-lts.After-least (calls t) (least-at t) least.Post least-Inv-loop least-μ-loop = record { before = record { before = record { before = record { before = record { before = record { before = record { before = h; if3 = a .0 }; shared-slice-known6 = a .1 }; wider = a .2 }; if4 = a .3 }; with-edge = a .4 }; least-arg = a .5 }; least = a .6 } in
-      rw (a .8 ∙ a .6 .ensures .1 (a .7 .left), a .9, a .10) (tried-miss (deeper r) (a .7 .left), l .inv .2))
-      (⊎-elim (λ a. let k = known h (a .0 .taken) in rw (a .4, a .5, a .6) (tried-heavy _ _ (few (level h)) _ (made (level h)) _ _ _ _ _ (tried h) (k .0) (k .1) (k .2) (omega (arith, a .3 .left, a .2 .ensures .0)), l .inv .2))
-      (λ a. rw (a .1, a .2, a .3) (tried-skip _ _ (few (level h)) _ (made (level h)) _ _ _ _ _ (tried h) (sym (h .has .ensures) ∙ a .0 .left), l .inv .2))))
+      let r : least-lts.After-least (calls t) (least-at t) least.Post least-Inv-loop least-μ-loop = record { before = record { before = record { before = record { before = record { before = record { before = record { before = record { before = record { before = record { before = record { before = h; if3 = a .0 }; shared-slice-known6 = a .1 }; wider = a .2 }; if4 = a .3 }; t = a .4 }; t2 = a .5 }; put-in = a .6 }; t3 = a .7 }; least-arg = a .8 }; least-arg2 = a .9 }; least = a .10 } in
+      rw (a .13 ∙ a .10 .ensures .1 (a .11 .left), a .14, a .15) (tried-miss (deeper r) (a .11 .left), l .inv .2))
+      (⊎-elim (λ a. let k = known h (a .0 .taken) in rw (a .5, a .6, a .7) (tried-heavy _ _ (few (level h)) _ (made (level h)) _ _ _ _ _ (tried h) (k .0) (k .1) (k .2) (omega (arith, a .3 .left, a .2 .ensures .0)), l .inv .2))
+      (λ a. rw (a .2, a .3, a .4) (tried-skip _ _ (few (level h)) _ (made (level h)) _ _ _ _ _ (tried h) (sym (h .has .ensures) ∙ a .0 .left), l .inv .2))))
       (c .if3 .came)
 
   least-level-of-requires : least-lts.Need-level-of-requires (calls t) (least-at t) least.Post least-Inv-loop least-μ-loop
-  least-level-of-requires c κs = c .before .before .before .before .before .pre .1
+  least-level-of-requires c κs = let q = c .before .before .before .before .before .before .pre .1 in (q .0, (made-by _ _ _ (q .1 .0), omega (arith, q .1 .1)))
 
   least-returns : least-lts.Need-returns (calls t) (least-at t) least.Post least-Inv-loop least-μ-loop
-  least-returns c = let b = c .before in (pick-low _ _ (few b) _ (made b) _ _ (b .level-of .ensures .packed .0) _ (b .level-of .ensures .packed .1) (c .if1 .taken), λ e. refl)
+  least-returns c = let b = c .before in (pick-low _ _ (few b) _ (made b) _ _ (levelled b .packed .0) _ (levelled b .packed .1) (c .if1 .taken), λ e. refl)
 
   least-returns-2 : least-lts.Need-returns-2 (calls t) (least-at t) least.Post least-Inv-loop least-μ-loop
-  least-returns-2 c = let b = c .before .before .before in (pick-leaf _ _ (few b) _ (made b) _ (b .level-of .ensures .none (c .before .if2 .taken)), λ e. absurd (true≢false e))
+  least-returns-2 c = let b = c .before .before .before in (pick-leaf _ _ (few b) _ (made b) _ (levelled b .none (c .before .if2 .taken)), λ e. absurd (true≢false e))
 
   least-loop-holds : least-lts.Need-loop-holds (calls t) (least-at t) least.Post least-Inv-loop least-μ-loop
   least-loop-holds c = let b = c .before .before in (omega arith, tried-none _ _ (few b) _ (made b) _ _ _, λ e. refl)
@@ -174,24 +183,27 @@ module _ (t : ℕ) where
   least-shared-slice-read-wider : least-lts.Need-shared-slice-read-wider (calls t) (least-at t) least.Post least-Inv-loop least-μ-loop
   least-shared-slice-read-wider c = round (c .before .before) .loop-test .taken
 
-  least-with-edge-requires : least-lts.Need-with-edge-requires (calls t) (least-at t) least.Post least-Inv-loop least-μ-loop
-  least-with-edge-requires c κs = let w = c .before in
-      let h = w .before .before .before in
-      (omega (arith, round h .loop-test .taken, few (level h)), omega (arith, c .if4 .taken, tried h .low, start (level h) .pre .1 .1 .1))
+  least-put-in-requires : least-lts.Need-put-in-requires (calls t) (least-at t) least.Post least-Inv-loop least-μ-loop
+  least-put-in-requires c κs = let h = c .before .before .before .before .before .before in omega (arith, round h .loop-test .taken, few (level h))
+
+  least-add-h : least-lts.Need-add-h (calls t) (least-at t) least.Post least-Inv-loop least-μ-loop
+  least-add-h c = let d = c .before .before .before in
+      let h = d .before .before .before .before in
+      record { fits = omega (arith, d .if4 .taken, tried h .low, start (level h) .pre .1 .1 .1) }
 
   least-least-requires : least-lts.Need-least-requires (calls t) (least-at t) least.Post least-Inv-loop least-μ-loop
-  least-least-requires c κs = let d = c .before in
-      let w = d .before .before in
+  least-least-requires c κs = let p = c .before .before .before in
+      let d = p .before .before .before in
+      let w = d .before in
       let h = w .before .before .before in
       let st = start (level h) in
-      let k = known h (w .before .before .if3 .taken) in
-      let s = d .with-edge .ensures in (
-        omega (arith, d .before .if4 .taken, tried h .low, st .pre .0, k .1, w .wider .ensures .0),
+      let k = known h (w .before .before .if3 .taken) in (
+        omega (arith, d .if4 .taken, tried h .low, st .pre .0, k .1, w .wider .ensures .0),
         (
           st .pre .1 .0,
           (
-            grown _ (few (level h)) _ (made (level h)) _ (k .0) (k .1) (k .2) _ _ (w .wider .ensures .0) (omega (arith, d .before .if4 .taken, tried h .low, st .pre .1 .1 .1)) (s .0) (s .1),
-            omega (arith, s .1, d .before .if4 .taken, tried h .low, st .pre .1 .1 .1),
+            grown _ (few (level h)) _ (made (level h)) _ (k .0) (k .1) (k .2) _ _ (w .wider .ensures .0) (omega (arith, d .if4 .taken, tried h .low, st .pre .1 .1 .1)) (ap (flagsFrom 0 most-edges) (p .put-in .ensures) ∙ flags-set most-edges _ (turn h .loop .e) (omega (arith, k .0, few (level h)))) refl,
+            omega (arith, d .if4 .taken, tried h .low, st .pre .1 .1 .1),
           ),
         ),
       )
@@ -200,18 +212,18 @@ module _ (t : ℕ) where
   least-lighter-requires c κs = let r = c .before in (r .least .ensures .0 .small, tried (hit r) .small)
 
   least-sub-spent : least-lts.Need-sub-spent (calls t) (least-at t) least.Post least-Inv-loop least-μ-loop
-  least-sub-spent c = omega (arith, up (c .before .before))
+  least-sub-spent c = omega (arith, up (c .before))
 
   least-returns-3 : least-lts.Need-returns-3 (calls t) (least-at t) least.Post least-Inv-loop least-μ-loop
-  least-returns-3 c = let z = c .before .before .before in
+  least-returns-3 c = let z = c .before .before in
       let b = level (hit (found-at z)) in (
-        subst⁻¹ (λ (x : Weighed.Pick). Picked (ws b) (P b) (cutOf (start b .args .s)) (start b .args .allowance) (pickOf x (written (found-at z)))) (won z)
-            (pick-tight (deeper (found-at z)) (z .before .if5 .taken) (b .level-of .ensures .packed .0) _ (b .level-of .ensures .packed .1) (omega (arith, c .if6 .taken, up z, heft z))),
+        subst⁻¹ (λ (x : Weighed.Pick). Picked (ws b) (P b) (so-far b) (start b .args .allowance) (pickOf x (written (found-at z)))) (won z)
+            (pick-tight (deeper (found-at z)) (z .before .if5 .taken) (levelled b .packed .0) _ (levelled b .packed .1) (omega (arith, c .if6 .taken, up z, heft z))),
         λ e. absurd (true-false (found z) e),
       )
 
   least-sub-rest : least-lts.Need-sub-rest (calls t) (least-at t) least.Post least-Inv-loop least-μ-loop
-  least-sub-rest c = omega (arith, up (c .before .before .before))
+  least-sub-rest c = omega (arith, up (c .before .before))
 
   least-add-e : least-lts.Need-add-e (calls t) (least-at t) least.Post least-Inv-loop least-μ-loop
   least-add-e c = let h = c .before in record { fits = omega (arith, round h .loop-test .taken, few (level h)) }
@@ -228,7 +240,7 @@ module _ (t : ℕ) where
   least-returns-4 c = let l = c .before in
       let b = l .before .before .before in
       let some = pos-of-ne-zero (l .before .if2 .left) in
-      (pick-all _ _ (few b) _ (made b) _ (whole (b .level-of .result .route)) _ _ (l .loop .e) (λ e f. omega (arith, b .level-of .ensures .edge some e f .0, c .loop-test .left)) (b .level-of .ensures .must some) (l .loop .inv .1), l .loop .inv .2)
+      (pick-all _ _ (few b) _ (made b) _ (whole (b .level-of .result .route)) _ _ (l .loop .e) (λ e f. omega (arith, levelled b .edge some e f .0, c .loop-test .left)) (levelled b .must some) (l .loop .inv .1), l .loop .inv .2)
 
 pub +least-spec : {M : Type 1} → statement M
 +least-spec = close μ-least λ t. least-lts.spec (calls t) (least-at t) least.Post least-Inv-loop least-μ-loop
@@ -240,7 +252,8 @@ pub +least-spec : {M : Type 1} → statement M
     (least-mul-wider t)
     (least-shared-slice-read-wider t)
     (λ c κs. search needs)  -- least-wider-requires
-    (least-with-edge-requires t)
+    (least-put-in-requires t)
+    (least-add-h t)
     (least-least-requires t)
     (least-lighter-requires t)
     (least-sub-spent t)

@@ -8,33 +8,30 @@ use Prim.Native.Nat.{ℕ, _+_, _-_, _≤_, _<_}
 use native.Mathlib.Omega.{arith}
 use lib.ListN.{length, getD}
 use borrow.Author.Needs.{needs}
+use Rattle.sets.specs.Whole.{rows}
 use Rattle.lightest.specs.Apart.{Apart}
-use Rattle.lightest.specs.Made.{Cut, Made, cutOf, edgesOf}
+use Rattle.lightest.specs.Made.{Cut, Made, cutAt, cutOf, edgesOf}
 use Rattle.graph.specs.Limits.{most-edges}
 use Rattle.lightest.proofs.Flags.{flags-at}
-use Rattle.lightest.proofs.Grown.{made-none}
+use Rattle.lightest.proofs.Grown.{made-by, made-none}
 use Rattle.lightest.proofs.Listed.{Kept, kept-start, kept-light, kept-gap, kept-skip, kept-room, kept-grown, kept-take, kept-found, kept-all, barren-heavy, barren-slack, barren-none, found-weight}
 use Rattle.lightest.proofs.Whole.{found}
 use Rattle.lightest.proofs.search.best.Statement.{statement}
 use Rattle.lightest.proofs.search.best.Tie as tie
 
--- the cut that has these edges
-abbrev cut-at : List ℕ → ℕ → Cut
-cut-at chosen weight = record { chosen = edgesOf chosen; weight = weight }
-
 abbrev Inv-loop : tie.InvT-loop
-Inv-loop from to links ws firsts seconds c₀ weight b gap k₀ n e₀ c k e = (e ≤ n) × Kept ws (Apart from to firsts seconds) (cut-at c weight) (cutOf k) e
+Inv-loop from to ins on fits ws us vs kept₀ k₀ c₀ h m weight b n e₀ kept k c e = (e ≤ n) × Kept ws (Apart from to (rows fits) us vs) (cutAt c weight) (cutOf k) e
 
 abbrev μ-loop : tie.MeasureT-loop
-μ-loop from to links ws firsts seconds c₀ weight b gap k₀ n e₀ c k e = n - e
+μ-loop from to ins on fits ws us vs kept₀ k₀ c₀ h m weight b n e₀ kept k c e = n - e
 
 -- what is known once there is a lightest cut and a bound
 module _ (b : tie.After-bound Inv-loop μ-loop) where
   abbrev lightest : tie.After-least Inv-loop μ-loop
-  lightest = b .before
+  lightest = b .before .before .before
 
   abbrev none : tie.After-empty Inv-loop μ-loop
-  none = lightest .before .before .before
+  none = lightest .before .before .before .before .before .before
 
   abbrev start : tie.Start Inv-loop μ-loop
   start = none .before .before .before .before .before .before
@@ -43,7 +40,7 @@ module _ (b : tie.After-bound Inv-loop μ-loop) where
   ws = start .args .ws .now
 
   abbrev P : List Bool → Type 0
-  P = Apart (start .args .from .now) (start .args .to .now) (start .args .firsts .now) (start .args .seconds .now)
+  P = Apart (start .args .from .now) (start .args .to .now) (rows (start .args .fits .now)) (start .args .us .now) (start .args .vs .now)
 
   abbrev weight : ℕ
   weight = lightest .least .result .weight
@@ -54,9 +51,9 @@ module _ (b : tie.After-bound Inv-loop μ-loop) where
   empty : Made ws (cutOf (none .empty .result))
   empty = made-none _ _ (none .empty .ensures .0) (none .empty .ensures .1)
 
-  kept-first : Kept ws P (cut-at (lightest .least .last .1 .1 .1 .1 .1 .1 .1 .1 .0) weight) (cutOf (none .empty .result)) 0
+  kept-first : Kept ws P (cutAt (lightest .least .last .1 .1 .1 .1 .1 .1 .1 .1 .1 .1 .1 .1 .0) weight) (cutOf (none .empty .result)) 0
   kept-first = kept-start _ _ few _ _ _ _ (none .empty .ensures .1) empty (none .empty .ensures .1) (lightest .least .ensures .0)
-      (found _ _ _ _ _ _ (start .pre) _ _ _ (λ e. omega (arith, none .before .before .before .shared-slice-known3 .given e)) (none .empty .ensures .1) (omega arith) (lightest .least .ensures .0))
+      (found _ _ _ _ _ _ _ _ (start .pre) _ _ _ (λ e. omega (arith, none .before .before .before .shared-slice-known3 .given e)) (none .empty .ensures .1) (omega arith) (lightest .least .ensures .0))
 
 -- what is known in a turn of the loop
 module _ (n : tie.In-loop Inv-loop μ-loop) where
@@ -64,7 +61,7 @@ module _ (n : tie.In-loop Inv-loop μ-loop) where
   turn = n .before
 
   abbrev keeps : List ℕ → Cut → ℕ → Type 0
-  keeps chosen k e = Kept (ws (turn .before)) (P (turn .before)) (cut-at chosen (weight (turn .before))) k e
+  keeps chosen k e = Kept (ws (turn .before)) (P (turn .before)) (cutAt chosen (weight (turn .before))) k e
 
   abbrev kept : keeps (turn .loop .c) (cutOf (turn .loop .k)) (turn .loop .e)
   kept = turn .loop .inv .1
@@ -94,16 +91,14 @@ module _ (h : tie.After-has Inv-loop μ-loop) where
 
 least-requires : tie.Need-least-requires Inv-loop μ-loop
 least-requires c κs =
-    let e = c .before .before in
+    let e = c .before .before .before .before .before in
     (e .before .before .before .before .before .before .pre, (made-none _ _ (e .empty .ensures .0) (e .empty .ensures .1), omega (arith, e .empty .ensures .0)))
 
 bound-requires : tie.Need-bound-requires Inv-loop μ-loop
 bound-requires c κs =
-    let e = c .before .before .before in
-    (e .before .before .before .before .before .before .pre, (made-none _ _ (e .empty .ensures .0) (e .empty .ensures .1), omega (arith, e .empty .ensures .0, c .least .ensures .0 .small)))
-
-sub-gap : tie.Need-sub-gap Inv-loop μ-loop
-sub-gap c = kept-gap _ _ (few c) _ _ _ (kept-first c) _ (c .bound .result .left) _ (none c .empty .ensures .1) (c .bound .ensures .packed)
+    let l = c .before .before in
+    let e = l .before .before .before .before .before .before in
+    (e .before .before .before .before .before .before .pre, (made-by _ _ _ (made-none _ _ (e .empty .ensures .0) (e .empty .ensures .1)), omega (arith, l .least .ensures .0 .small)))
 
 loop-holds : tie.Need-loop-holds Inv-loop μ-loop
 loop-holds c = (omega arith, kept-first c)
@@ -128,6 +123,13 @@ mul-wider-2 c = record { fits = omega (arith, below (round (c .before .before .b
 element-copy-out-wider : tie.Need-element-copy-out-wider Inv-loop μ-loop
 element-copy-out-wider c = below (round (c .before .before .before))
 
+-- the bound is none too high
+gap : (b : tie.After-bound Inv-loop μ-loop) → b .bound .result .sum ≤ weight b
+gap b = kept-gap _ _ (few b) _ _ _ (kept-first b) _ (b .bound .result .left) _ (none b .empty .ensures .1) (b .bound .ensures .packed)
+
+sub-if3 : tie.Need-sub-if3 Inv-loop μ-loop
+sub-if3 c = omega (arith, gap (turn (round (c .before .before .before .before .before)) .before))
+
 with-edge-requires-2 : tie.Need-with-edge-requires-2 Inv-loop μ-loop
 with-edge-requires-2 c κs =
     let two = c .before .before .before in
@@ -136,11 +138,11 @@ with-edge-requires-2 c κs =
 
 least-requires-2 : tie.Need-least-requires-2 Inv-loop μ-loop
 least-requires-2 c κs =
-    let two = c .before .before .before .before .before in
+    let two = c .before .before .before .before .before .before .before .before in
     let h = two .before .before .before in
     let n = round h in
     let fits : turn n .loop .k .weight + weighed h .wider .result ≤ weight (turn n .before) = omega (arith, two .if2 .taken, light n) in
-    let longer = c .before .with-edge2 .ensures in (
+    let longer = c .before .before .before .before .with-edge2 .ensures in (
       start (turn n .before) .pre,
       (kept-grown _ _ (few (turn n .before)) _ _ _ (kept n) (n .loop-test .taken) (heavy n) _ (weighed h .wider .ensures .0) _ (longer .0) (longer .1) fits, omega (arith, longer .1, fits, kept n .made .small)),
     )
@@ -163,16 +165,16 @@ loop-again c =
     let rest = weight b - k in
     let low : x ≤ rest → k + x ≤ weight b = λ q. omega (arith, q, light n) in
     let even : x ≤ rest → k + x + (rest - x) ≡ weight b = λ q. omega (arith, q, light n) in
-    ⊎-elim (λ z. rw (z .2, z .3) (omega arith, kept-take _ _ (few b) _ _ _ (kept n) lt (heavy n) _ w _ (z .1 .ensures .0) (z .1 .ensures .1) (room h (z .0 .taken)) (same h ∙ z .0 .taken)))
-    (⊎-elim (λ z. rw (z .10, z .11) (
+    ⊎-elim (λ z. rw (z .3, z .4) (omega arith, kept-take _ _ (few b) _ _ _ (kept n) lt (heavy n) _ w _ (z .1 .ensures .0) (z .1 .ensures .1) (room h (z .0 .taken)) (same h ∙ z .0 .taken)))
+    (⊎-elim (λ z. rw (z .14, z .15) (
       omega arith,
-      subst (λ (v : ℕ). Kept (ws b) (P b) (cut-at (z .8 .last .1 .1 .1 .1 .1 .1 .1 .1 .0) v) (cutOf (z .6 .result)) (turn n .loop .e + 1))
-          (found-weight _ _ (few b) _ _ _ (kept n) lt (heavy n) x w _ (z .6 .ensures .0) (z .6 .ensures .1) (low (z .2 .taken)) (rest - x) (even (z .2 .taken)) _ (z .8 .ensures .0) (z .9 .taken))
-          (kept-found _ _ (few b) _ _ _ (kept n) lt (heavy n) x w _ (z .6 .ensures .0) (z .6 .ensures .1) (low (z .2 .taken)) (rest - x) (even (z .2 .taken)) _ (z .8 .ensures .0) (z .9 .taken)),
+      subst (λ (v : ℕ). Kept (ws b) (P b) (cutAt (z .11 .last .1 .1 .1 .1 .1 .1 .1 .1 .1 .1 .1 .1 .0) v) (cutOf (z .6 .result)) (turn n .loop .e + 1))
+          (found-weight _ _ (few b) _ _ _ (kept n) lt (heavy n) x w _ (z .6 .ensures .0) (z .6 .ensures .1) (low (z .2 .taken)) (rest - x) (even (z .2 .taken)) _ (z .11 .ensures .0) (z .12 .taken))
+          (kept-found _ _ (few b) _ _ _ (kept n) lt (heavy n) x w _ (z .6 .ensures .0) (z .6 .ensures .1) (low (z .2 .taken)) (rest - x) (even (z .2 .taken)) _ (z .11 .ensures .0) (z .12 .taken)),
     ))
-    (⊎-elim (λ z. rw (z .10 ∙ z .8 .ensures .1 (z .9 .left), z .11) (omega arith, kept-skip _ _ (few b) _ _ _ (kept n) (same h ∙ z .0 .left) (barren-none _ _ (few b) _ _ _ (kept n) lt (heavy n) x w _ (z .6 .ensures .0) (z .6 .ensures .1) (low (z .2 .taken)) (rest - x) (even (z .2 .taken)) _ (z .8 .ensures .0) (z .9 .left))))
-    (⊎-elim (λ z. rw (z .6, z .7) (omega arith, kept-skip _ _ (few b) _ _ _ (kept n) (same h ∙ z .0 .left) (barren-slack _ _ (few b) _ _ _ (kept n) lt (heavy n) _ (b .bound .result .left) _ (none b .empty .ensures .1) (b .bound .ensures .packed) (omega (arith, z .5 .left, z .4 .ensures .0)))))
-    (λ z. rw (z .3, z .4) (omega arith, kept-skip _ _ (few b) _ _ _ (kept n) (same h ∙ z .0 .left) (barren-heavy _ _ (few b) _ _ _ (kept n) lt (heavy n) (omega (arith, z .2 .left, w))))))))
+    (⊎-elim (λ z. rw (z .14, z .15 ∙ z .11 .ensures .1 (z .12 .left)) (omega arith, kept-skip _ _ (few b) _ _ _ (kept n) (same h ∙ z .0 .left) (barren-none _ _ (few b) _ _ _ (kept n) lt (heavy n) x w _ (z .6 .ensures .0) (z .6 .ensures .1) (low (z .2 .taken)) (rest - x) (even (z .2 .taken)) _ (z .11 .ensures .0) (z .12 .left))))
+    (⊎-elim (λ z. rw (z .7, z .8) (omega arith, kept-skip _ _ (few b) _ _ _ (kept n) (same h ∙ z .0 .left) (barren-slack _ _ (few b) _ _ _ (kept n) lt (heavy n) _ (b .bound .result .left) _ (none b .empty .ensures .1) (b .bound .ensures .packed) (omega (arith, z .5 .left, z .4 .ensures .0)))))
+    (λ z. rw (z .4, z .5) (omega arith, kept-skip _ _ (few b) _ _ _ (kept n) (same h ∙ z .0 .left) (barren-heavy _ _ (few b) _ _ _ (kept n) lt (heavy n) (omega (arith, z .2 .left, w))))))))
     (c .if1 .came)
 
 returns : tie.Need-returns Inv-loop μ-loop
@@ -188,7 +190,6 @@ best-spec =
     (λ c κs. search needs)  -- none-requires
     least-requires
     bound-requires
-    sub-gap
     loop-holds
     mul-wider
     (λ c. search needs)  -- shared-slice-read-wider
@@ -199,6 +200,7 @@ best-spec =
     mul-wider-2
     element-copy-out-wider
     (λ c κs. search needs)  -- wider-requires-2
+    sub-if3
     with-edge-requires-2
     least-requires-2
     add-e

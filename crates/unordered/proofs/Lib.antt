@@ -1,0 +1,7 @@
+-- The mathematics of the search for an unordered route.
+pub mod Looked
+pub mod Filled
+pub mod Trails
+pub mod Turns
+pub mod Judged
+pub mod Ways
