@@ -35,6 +35,14 @@ impl Cut {
         Cut { chosen, weight: 0 }
     }
 
+    // These edges, said to weigh so much.
+    pub fn of(edges: &WideSet, weight: u32) -> Self
+        ensures { λ r. ⌜ (r .weight ≡ weight) × (r .chosen ≡ now (edges .entry)) ⌝ }
+    {
+        let chosen = *edges;
+        Cut { chosen, weight }
+    }
+
     pub fn with_edge(self, e: usize, w: u32) -> Self
         requires { ⌜ (e < most-edges) × (self .weight + w < most-weight) ⌝ }
         ensures { λ r. ⌜ (edgesOf (r .chosen) ≡ set (edgesOf (self .chosen)) e true) × (r .weight ≡ self .weight + w) ⌝ }

@@ -116,11 +116,11 @@ fn least(
         if has(&b.route, e) {
             let w = wider(ws[e]);
             if w <= rest {
-                let mut t = *chosen;
-                put_in(&mut t, e);
-                let h = weight + w;
+                let next = Cut::of(chosen, weight).with_edge(e, w);
+                let t = &next.chosen;
+                let h = next.weight;
                 let more = rest - w;
-                let c = least(from, to, ins, on, fits, ws, us, vs, &t, h, more, kept, best);
+                let c = least(from, to, ins, on, fits, ws, us, vs, t, h, more, kept, best);
                 if c.found {
                     found = c.lighter(found);
                     let spent = found.weight - weight;
@@ -169,10 +169,10 @@ pub fn best(
             if w <= rest {
                 if wider(b.left[e]) <= weight - b.sum {
                     let next = k.with_edge(e, w);
-                    let t = next.chosen;
+                    let t = &next.chosen;
                     let h = next.weight;
                     let m = rest - w;
-                    let d = least(from, to, ins, on, fits, ws, us, vs, &t, h, m, kept, &mut c);
+                    let d = least(from, to, ins, on, fits, ws, us, vs, t, h, m, kept, &mut c);
                     if d.found {
                         k = next;
                     }

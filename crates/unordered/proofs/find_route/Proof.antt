@@ -1,5 +1,5 @@
 -- `unordered::find_route` meets its contract: no way at all, a shortest route that is judged unordered, or what the pairs say.
-use native.Mathlib.Nat.{pos-of-ne-zero}
+use native.Mathlib.Omega.{arith}
 use borrow.Author.Needs.{needs}
 use Rattle.sets.specs.Whole.{rows}
 use Rattle.unordered.proofs.Ways.{wayless}
@@ -13,14 +13,14 @@ returns : tie.Need-returns
 returns c =
     let f = c .before in
     let g = start f .args in
-    (f .find-route .ensures .0, wayless (g .from .now) (g .to .now) (rows (g .fits .now)) (g .left .now) (g .a) (g .goal) _ (f .find-route .ensures .1) (c .if1 .taken) _)
+    (f .find-route .ensures .0, wayless (g .from .now) (g .to .now) (rows (g .fits .now)) (g .left .now) (g .a) (g .goal) _ (f .find-route .ensures .1) (omega (arith, c .if1 .taken)) _)
 
 judged-requires : tie.Need-judged-requires
 judged-requires c κs =
     let f = c .before .before in
     let p = start f .pre in
     let e = f .find-route .ensures .1 in
-    ((p .0 .0, p .1 .0 .0, p .1 .0 .1), (pos-of-ne-zero (c .before .if1 .left), e .short, λ k h. e .edge k h .0))
+    ((p .0 .0, p .1 .0 .0, p .1 .0 .1), (omega (arith, c .before .if1 .left), e .short, λ k h. e .edge k h .0))
 
 returns-2 : tie.Need-returns-2
 returns-2 c =

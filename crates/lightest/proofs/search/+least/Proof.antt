@@ -7,7 +7,7 @@ use mathlib.Core.Path.{_≡_, refl, sym, ap, subst, subst⁻¹, _∙_}
 use Prim.Native.Nat.{_-_, _≤_, ℕ, _<_, _+_}
 use native.Mathlib.Nat.{pos-of-ne-zero}
 use native.Mathlib.Omega.{arith}
-use lib.ListN.{length, getD}
+use lib.ListN.{length, getD, set}
 use borrow.Author.Needs.{needs}
 use borrow.Fn.Kinds.{In}
 use borrow.Fn.PlainCycle.{Measures, is, falls, and}
@@ -16,9 +16,8 @@ use Rattle.graph.specs.Limits.{most-edges}
 use Rattle.graph.proofs.Splits.{true-false}
 use Rattle.lightest.specs.declared.Pick as Weighed
 use Rattle.lightest.specs.Apart.{Apart}
-use Rattle.lightest.specs.Made.{Cut, Made, cutAt, flagsFrom, pickOf}
+use Rattle.lightest.specs.Made.{Cut, Made, cutAt, cutOf, edgesOf, pickOf}
 use Rattle.lightest.specs.Search.{Levelled, Picked}
-use Rattle.lightest.proofs.Flags.{flags-set}
 use Rattle.lightest.proofs.Grown.{grown, made-by}
 use Rattle.lightest.proofs.Tried.{Tried, Deeper, lighter-first, pick-all, pick-leaf, pick-low, pick-tight, tried-heavy, tried-hit, tried-light, tried-miss, tried-none, tried-skip, tried-up}
 use Rattle.lightest.proofs.search.+least.{statement}
@@ -29,7 +28,8 @@ use Rattle.lightest.proofs.search.+least.Lts-least as least-lts
 use Rattle.lightest.proofs.search.level_of.Reads as level-of-reads
 use Rattle.sets.proofs.wide.has.Reads as has-reads
 use Rattle.lightest.proofs.pack.wider.Reads as wider-reads
-use Rattle.sets.proofs.wide.put_in.Reads as put-in-reads
+use Rattle.lightest.proofs.Cut.of.Reads as of-reads
+use Rattle.lightest.proofs.Cut.with_edge.Reads as with-edge-reads
 use Rattle.lightest.proofs.Pick.lighter.Reads as lighter-reads
 
 abbrev μ-least : Measures 11 least-kinds.ps ℕ
@@ -48,7 +48,7 @@ abbrev least-μ-loop : least-lts.MeasureT-loop
 least-μ-loop from to ins on fits ws us vs chosen weight allowance kept₀ best₀ found₀ b sum n rest₀ e₀ kept best found rest e = n - e
 
 abbrev calls : ℕ → least-lts.Claims
-calls t = (level-of-reads.Asked, level-of-reads.Learnt, has-reads.Asked, has-reads.Learnt, wider-reads.Asked, wider-reads.Learnt, put-in-reads.Asked, put-in-reads.Learnt, least-below t, least.Post, lighter-reads.Asked, lighter-reads.Learnt)
+calls t = (level-of-reads.Asked, level-of-reads.Learnt, has-reads.Asked, has-reads.Learnt, wider-reads.Asked, wider-reads.Learnt, of-reads.Asked, of-reads.Learnt, with-edge-reads.Asked, with-edge-reads.Learnt, least-below t, least.Post, lighter-reads.Asked, lighter-reads.Learnt)
 
 module _ (t : ℕ) where
   -- what is known once there is a bound
@@ -98,32 +98,43 @@ module _ (t : ℕ) where
     known : h .has .result ≡ true → (turn .loop .e < length (ws level)) × (1 ≤ getD (ws level) (turn .loop .e) 0) × (getD (so-far level .chosen) (turn .loop .e) false ≡ false)
     known f = levelled level .edge (pos-of-ne-zero (turn .before .if2 .left)) (turn .loop .e) (sym (h .has .ensures) ∙ f)
 
+  -- what is known of the larger cut
+  module _ (g : least-lts.After-with-edge (calls t) (least-at t) least.Post least-Inv-loop least-μ-loop) where
+    abbrev weighed : least-lts.After-wider (calls t) (least-at t) least.Post least-Inv-loop least-μ-loop
+    weighed = g .before .before .before
+
+    abbrev edge-of : least-lts.After-has (calls t) (least-at t) least.Post least-Inv-loop least-μ-loop
+    edge-of = weighed .before .before .before
+
+    one-more : edgesOf (g .with-edge .result .chosen) ≡ set (so-far (level edge-of) .chosen) (turn edge-of .loop .e) true
+    one-more = g .with-edge .ensures .0 ∙ ap (λ (x : List ℕ). set (edgesOf x) (turn edge-of .loop .e) true) (g .before .of .ensures .1)
+
+    heavier : g .with-edge .result .weight ≡ so-far (level edge-of) .weight + weighed .wider .result
+    heavier = g .with-edge .ensures .1 ∙ ap (λ (x : ℕ). x + weighed .wider .result) (g .before .of .ensures .0)
+
   -- what is known a level deeper
   module _ (r : least-lts.After-least (calls t) (least-at t) least.Post least-Inv-loop least-μ-loop) where
-    abbrev larger : least-lts.After-put-in (calls t) (least-at t) least.Post least-Inv-loop least-μ-loop
-    larger = r .before .before .before .before
-
-    abbrev weighed : least-lts.After-wider (calls t) (least-at t) least.Post least-Inv-loop least-μ-loop
-    weighed = larger .before .before .before .before
+    abbrev larger : least-lts.After-with-edge (calls t) (least-at t) least.Post least-Inv-loop least-μ-loop
+    larger = r .before .before .before .before .before
 
     abbrev hit : least-lts.After-has (calls t) (least-at t) least.Post least-Inv-loop least-μ-loop
-    hit = weighed .before .before .before
+    hit = edge-of larger
 
     -- the edges written by then
     abbrev written : List ℕ
     written = r .least .last .1 .1 .1 .1 .1 .1 .1 .1 .1 .1 .1 .1 .0
 
-    deeper : Deeper (ws (level hit)) (P (level hit)) (so-far (level hit)) (start (level hit) .args .allowance) (whole (level hit .level-of .result .route)) (pickOf (turn hit .loop .found) (turn hit .loop .best)) (turn hit .loop .rest) (turn hit .loop .e) (weighed .wider .result) (cutAt (larger .put-in .last .0) (start (level hit) .args .weight + weighed .wider .result)) (pickOf (r .least .result) written)
-    deeper = let k = known hit (weighed .before .before .if3 .taken) in record {
+    deeper : Deeper (ws (level hit)) (P (level hit)) (so-far (level hit)) (start (level hit) .args .allowance) (whole (level hit .level-of .result .route)) (pickOf (turn hit .loop .found) (turn hit .loop .best)) (turn hit .loop .rest) (turn hit .loop .e) (weighed larger .wider .result) (cutOf (larger .with-edge .result)) (pickOf (r .least .result) written)
+    deeper = let k = known hit (weighed larger .before .before .if3 .taken) in record {
       few = few (level hit);
       made = made (level hit);
       tried = tried hit;
       edge = k .0;
       some = k .1;
       out = k .2;
-      room = larger .before .before .before .if4 .taken;
-      chosen = ap (flagsFrom 0 most-edges) (larger .put-in .ensures) ∙ flags-set most-edges _ (turn hit .loop .e) (omega (arith, k .0, few (level hit)));
-      sum = refl;
+      room = larger .before .before .if4 .taken;
+      chosen = one-more larger;
+      sum = heavier larger;
       picked = r .least .ensures .0;
     }
 
@@ -153,10 +164,10 @@ module _ (t : ℕ) where
   on c = let h = c .before in
       let l = turn h .loop in
       ⊎-elim (λ a.
-      let z : least-lts.After-lighter (calls t) (least-at t) least.Post least-Inv-loop least-μ-loop = record { before = record { before = record { before = record { before = record { before = record { before = record { before = record { before = record { before = record { before = record { before = record { before = record { before = h; if3 = a .0 }; shared-slice-known6 = a .1 }; wider = a .2 }; if4 = a .3 }; t = a .4 }; t2 = a .5 }; put-in = a .6 }; t3 = a .7 }; least-arg = a .8 }; least-arg2 = a .9 }; least = a .10 }; if5 = a .11 }; lighter = a .12 } in
+      let z : least-lts.After-lighter (calls t) (least-at t) least.Post least-Inv-loop least-μ-loop = record { before = record { before = record { before = record { before = record { before = record { before = record { before = record { before = record { before = record { before = record { before = record { before = record { before = h; if3 = a .0 }; shared-slice-known6 = a .1 }; wider = a .2 }; if4 = a .3 }; of = a .4 }; with-edge = a .5 }; next = a .6 }; t = a .7 }; least-arg = a .8 }; least-arg2 = a .9 }; least = a .10 }; if5 = a .11 }; lighter = a .12 } in
       rw (a .16, a .17, a .18) (better z, λ e. absurd (true-false (found z) e)))
       (⊎-elim (λ a.
-      let r : least-lts.After-least (calls t) (least-at t) least.Post least-Inv-loop least-μ-loop = record { before = record { before = record { before = record { before = record { before = record { before = record { before = record { before = record { before = record { before = record { before = h; if3 = a .0 }; shared-slice-known6 = a .1 }; wider = a .2 }; if4 = a .3 }; t = a .4 }; t2 = a .5 }; put-in = a .6 }; t3 = a .7 }; least-arg = a .8 }; least-arg2 = a .9 }; least = a .10 } in
+      let r : least-lts.After-least (calls t) (least-at t) least.Post least-Inv-loop least-μ-loop = record { before = record { before = record { before = record { before = record { before = record { before = record { before = record { before = record { before = record { before = record { before = h; if3 = a .0 }; shared-slice-known6 = a .1 }; wider = a .2 }; if4 = a .3 }; of = a .4 }; with-edge = a .5 }; next = a .6 }; t = a .7 }; least-arg = a .8 }; least-arg2 = a .9 }; least = a .10 } in
       rw (a .13 ∙ a .10 .ensures .1 (a .11 .left), a .14, a .15) (tried-miss (deeper r) (a .11 .left), l .inv .2))
       (⊎-elim (λ a. let k = known h (a .0 .taken) in rw (a .5, a .6, a .7) (tried-heavy _ _ (few (level h)) _ (made (level h)) _ _ _ _ _ (tried h) (k .0) (k .1) (k .2) (omega (arith, a .3 .left, a .2 .ensures .0)), l .inv .2))
       (λ a. rw (a .2, a .3, a .4) (tried-skip _ _ (few (level h)) _ (made (level h)) _ _ _ _ _ (tried h) (sym (h .has .ensures) ∙ a .0 .left), l .inv .2))))
@@ -183,27 +194,24 @@ module _ (t : ℕ) where
   least-shared-slice-read-wider : least-lts.Need-shared-slice-read-wider (calls t) (least-at t) least.Post least-Inv-loop least-μ-loop
   least-shared-slice-read-wider c = round (c .before .before) .loop-test .taken
 
-  least-put-in-requires : least-lts.Need-put-in-requires (calls t) (least-at t) least.Post least-Inv-loop least-μ-loop
-  least-put-in-requires c κs = let h = c .before .before .before .before .before .before in omega (arith, round h .loop-test .taken, few (level h))
-
-  least-add-h : least-lts.Need-add-h (calls t) (least-at t) least.Post least-Inv-loop least-μ-loop
-  least-add-h c = let d = c .before .before .before in
+  least-with-edge-requires : least-lts.Need-with-edge-requires (calls t) (least-at t) least.Post least-Inv-loop least-μ-loop
+  least-with-edge-requires c κs = let d = c .before in
       let h = d .before .before .before .before in
-      record { fits = omega (arith, d .if4 .taken, tried h .low, start (level h) .pre .1 .1 .1) }
+      (omega (arith, round h .loop-test .taken, few (level h)), omega (arith, c .of .ensures .0, d .if4 .taken, tried h .low, start (level h) .pre .1 .1 .1))
 
   least-least-requires : least-lts.Need-least-requires (calls t) (least-at t) least.Post least-Inv-loop least-μ-loop
-  least-least-requires c κs = let p = c .before .before .before in
-      let d = p .before .before .before in
-      let w = d .before in
-      let h = w .before .before .before in
+  least-least-requires c κs = let g = c .before .before .before .before in
+      let d = g .before .before in
+      let h = edge-of g in
+      let w = weighed g in
       let st = start (level h) in
       let k = known h (w .before .before .if3 .taken) in (
         omega (arith, d .if4 .taken, tried h .low, st .pre .0, k .1, w .wider .ensures .0),
         (
           st .pre .1 .0,
           (
-            grown _ (few (level h)) _ (made (level h)) _ (k .0) (k .1) (k .2) _ _ (w .wider .ensures .0) (omega (arith, d .if4 .taken, tried h .low, st .pre .1 .1 .1)) (ap (flagsFrom 0 most-edges) (p .put-in .ensures) ∙ flags-set most-edges _ (turn h .loop .e) (omega (arith, k .0, few (level h)))) refl,
-            omega (arith, d .if4 .taken, tried h .low, st .pre .1 .1 .1),
+            grown _ (few (level h)) _ (made (level h)) _ (k .0) (k .1) (k .2) _ _ (w .wider .ensures .0) (omega (arith, d .if4 .taken, tried h .low, st .pre .1 .1 .1)) (one-more g) (heavier g),
+            omega (arith, heavier g, d .if4 .taken, tried h .low, st .pre .1 .1 .1),
           ),
         ),
       )
@@ -252,8 +260,8 @@ pub +least-spec : {M : Type 1} → statement M
     (least-mul-wider t)
     (least-shared-slice-read-wider t)
     (λ c κs. search needs)  -- least-wider-requires
-    (least-put-in-requires t)
-    (least-add-h t)
+    (λ c κs. search needs)  -- least-of-requires
+    (least-with-edge-requires t)
     (least-least-requires t)
     (least-lighter-requires t)
     (least-sub-spent t)
