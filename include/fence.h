@@ -94,9 +94,9 @@ extern "C" {
 
 /*
  * Bytes of stack that a call takes at most, for a thread that has a small one. Run's search goes one level
- * deeper for each edge of the cut it tries and takes 560 bytes for it; the walk of run and ask takes 208 for
- * each node of a route. Measured, the deepest calls leave a quarter of run's number free, a seventh of ask's
- * and a third of strip's.
+ * deeper for each edge of the cut it tries and takes 688 bytes for it; the walk of run and ask takes 208 for
+ * each node of a route. Measured, the deepest calls leave a seventh of run's number and of ask's free, and a
+ * third of strip's.
  */
 #define FENCE_RUN_STACK 1048576
 #define FENCE_ASK_STACK 262144

@@ -72,8 +72,8 @@ fn level_of(
 }
 
 // The lightest cut that has the chosen edges and weighs at most the allowance more than they do, or none. Its edges are written to `best`,
-// which else stays as it was. The chosen edges are lent, not copied: a level of the search holds two sets on the stack, its route's edges and
-// the larger choice that it lends in turn.
+// which else stays as it was. The chosen edges are lent, since a cut handed on by value would stand twice on each level's stack: in its local
+// and in the call.
 fn least(
     from: &[u16],
     to: &[u16],

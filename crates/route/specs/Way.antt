@@ -15,7 +15,7 @@ pub record Net (from to : List ℕ) : Type 0 where
   pub tail : (e : ℕ) → e < length from → getD from e 0 < most-nodes
   pub head : (e : ℕ) → e < length from → getD to e 0 < most-nodes
 
--- of the edges from lo on: an entry for each node has the first that ends there, and then one for each edge the next that ends where it does
+-- of the edges from lo on, each at the node that `to` has for it: an entry for each node has the first edge there, and then one for each edge the next at its node
 pub record Linked (to entries : List ℕ) (lo : ℕ) : Type 0 where
   pub first : (v : ℕ) → v < most-nodes → FirstFrom (λ e. getD to e 0 ≡ v) lo (length to) (getD entries v 0)
   pub next : (e : ℕ) → lo ≤ e → e < length to → FirstFrom (λ x. getD to x 0 ≡ getD to e 0) (e + 1) (length to) (getD entries (most-nodes + e) 0)

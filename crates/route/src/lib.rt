@@ -9,8 +9,9 @@ ghost use Rattle.graph.specs.Limits.{most-nodes, most-edges};
 ghost use Rattle.route.specs.Way.{Net, Linked, Sealed, Found};
 ghost use Rattle.route.specs.Spread.{Homeward};
 
-// The edges that end at each node, as lists: an entry for each node has the first of them, and after these an entry for each edge has the
-// next one that ends where it does. The number of edges says that there is none.
+// The edges at each node, as lists: an entry for each node has the first of them, and after these an entry for each edge has the next one at
+// its node. The number of edges says that there is none. Given where edges end these are the ones that lead to a node, given where they start
+// the ones that leave it.
 pub struct Links {
     pub entries: [u16; Graph::NODES + Graph::EDGES],
 }
@@ -27,7 +28,7 @@ pub fn wide(x: u16) -> usize
     x as usize
 }
 
-// From the last edge down: each goes before those that end at the same node.
+// From the last edge down: each goes before those at the same node.
 pub fn link(to: &[u16]) -> Links
     requires { ⌜ (length (now to) ≤ most-edges) × ((e : ℕ) → e < length (now to) → getD (now to) e 0 < most-nodes) ⌝ }
     ensures { λ r. ⌜ (length (r .entries) ≡ most-nodes + most-edges) × Linked (now (to .entry)) (r .entries) 0 ⌝ }
