@@ -36,10 +36,12 @@ module _ (edges : List Edge) where
   pub copied-none : (xs ys ws : List ℕ) → length xs ≡ most-edges → length ys ≡ most-edges → length ws ≡ most-edges → Copied edges xs ys ws 0
   copied-none xs ys ws a b c = record { sizes = (a, b, c); each = λ e h. absurd (omega arith) }
 
-  pub copied-more : (xs ys ws : List ℕ) (n x y w : ℕ) → n < most-edges → Copied edges xs ys ws n → x ≡ (getD edges n no-edge) .from → y ≡ (getD edges n no-edge) .to → w ≡ (getD edges n no-edge) .weight → Copied edges (set xs n x) (set ys n y) (set ws n w) (n + 1)
+  pub copied-more : (xs ys ws : List ℕ) (n x y w : ℕ) → n < most-edges → Copied edges xs ys ws n → x ≡ (getD edges n no-edge) .from
+      → y ≡ (getD edges n no-edge) .to → w ≡ (getD edges n no-edge) .weight → Copied edges (set xs n x) (set ys n y) (set ws n w) (n + 1)
   copied-more xs ys ws n x y w h c p q r = record {
     sizes = (length-set xs n x ∙ c .sizes .0, length-set ys n y ∙ c .sizes .1, length-set ws n w ∙ c .sizes .2);
-    each = below-more (λ e. (getD (set xs n x) e 0 ≡ (getD edges e no-edge) .from) × (getD (set ys n y) e 0 ≡ (getD edges e no-edge) .to) × (getD (set ws n w) e 0 ≡ (getD edges e no-edge) .weight)) n
+    each = below-more (λ e. (getD (set xs n x) e 0 ≡ (getD edges e no-edge) .from) × (getD (set ys n y) e 0 ≡ (getD edges e no-edge) .to)
+        × (getD (set ws n w) e 0 ≡ (getD edges e no-edge) .weight)) n
         (λ e l. let o = c .each e l in (set-old xs n x e l ∙ o .0, set-old ys n y e l ∙ o .1, set-old ws n w e l ∙ o .2)) (
           getD-set-same xs n x 0 (omega (arith, c .sizes .0)) ∙ p,
           getD-set-same ys n y 0 (omega (arith, c .sizes .1)) ∙ q,
@@ -48,17 +50,24 @@ module _ (edges : List Edge) where
   }
 
   -- what is lent of the lists holds the edges of a graph that has those
-  pub copied-drawn : (g : Graph) (xs ys ws : List ℕ) (n : ℕ) → g .edges ≡ take n edges → length edges ≡ most-edges → n ≤ most-edges → Copied edges xs ys ws n → Drawn g (lent n xs) (lent n ys) (lent n ws)
+  pub copied-drawn : (g : Graph) (xs ys ws : List ℕ) (n : ℕ) → g .edges ≡ take n edges → length edges ≡ most-edges → n ≤ most-edges
+      → Copied edges xs ys ws n → Drawn g (lent n xs) (lent n ys) (lent n ws)
   copied-drawn g xs ys ws n q le h c = record {
-    long = (lent-long n xs (omega (arith, c .sizes .0)) ∙ sym few, lent-long n ys (omega (arith, c .sizes .1)) ∙ sym few, lent-long n ws (omega (arith, c .sizes .2)) ∙ sym few);
+    long = (long xs (c .sizes .0), long ys (c .sizes .1), long ws (c .sizes .2));
     each = λ e l. let k : e < n = omega (arith, few) in
         let o = c .each e k in
-        let p = at e k in
-        (lent-at n xs e k ∙ o .0 ∙ ap (λ (x : Edge). x .from) p, lent-at n ys e k ∙ o .1 ∙ ap (λ (x : Edge). x .to) p, lent-at n ws e k ∙ o .2 ∙ ap (λ (x : Edge). x .weight) p);
+        let p = at e k in (
+          lent-at n xs e k ∙ o .0 ∙ ap (λ (x : Edge). x .from) p,
+          lent-at n ys e k ∙ o .1 ∙ ap (λ (x : Edge). x .to) p,
+          lent-at n ws e k ∙ o .2 ∙ ap (λ (x : Edge). x .weight) p,
+        );
   }
     where
       few : length (g .edges) ≡ n
       few = ap length q ∙ length-take-le n edges (omega arith)
+
+      long : (l : List ℕ) → length l ≡ most-edges → length (lent n l) ≡ length (g .edges)
+      long l e = lent-long n l (omega (arith, e)) ∙ sym few
 
       at : (e : ℕ) → e < n → getD edges e no-edge ≡ edge g e
       at e k = sym (ap (λ (l : List Edge). getD l e no-edge) q ∙ getD-take n edges e no-edge k)

@@ -1,12 +1,16 @@
 -- Flags and rising lists are the same sets: the least by flags is the best by lists.
 -- Assumes nothing.
-use mathlib.Core.Bool.{Bool, true, false, true≢false, false≢true}
+use mathlib.Core.Bool.{Bool, true, false, cond, true≢false, false≢true}
 use mathlib.Core.List.{List, [], _∷_}
+use mathlib.Core.Logic.{_⊎_, inl, inr, ⊎-elim}
 use mathlib.Core.Path.{_≡_, refl, sym, ap, _∙_, subst}
 use Prim.Native.Nat.{ℕ, zero, suc, _+_, _<_, _≤_}
-use native.Mathlib.Decide.{ℕ-discrete}
 use native.Mathlib.Omega.{arith}
+use lib.Dec.{eqb}
 use lib.ListN.{length, getD}
+use borrow.Author.Tests.{eq-eqb, ne-eqb}
+use Rattle.graph.proofs.Says.{decide, says-eq}
+use Rattle.graph.proofs.Splits.{true-false}
 use Rattle.lightest.specs.Sets.{Has, Edges, Least, weigh}
 use Rattle.graph.specs.Cut.{Rising, First, Best, total}
 use Rattle.graph.specs.Held.{Absent}
@@ -46,51 +50,47 @@ absent-out n (false ∷ t) (suc k) z q a = absent-out (suc n) t k z (omega arith
 
 -- ---- from a list to flags
 
-pick : (n x : ℕ) → Dec (x ≡ n) → List Bool → List Bool → List Bool
-pick n x (yes p) a b = true ∷ a
-pick n x (no p) a b = false ∷ b
+-- whether a rising list from n on begins with n, and what of it comes after n
+headed : ℕ → List ℕ → Bool
+headed n [] = false
+headed n (x ∷ d) = eqb x n
+
+past : ℕ → List ℕ → List ℕ
+past n [] = []
+past n (x ∷ d) = cond (eqb x n) d (x ∷ d)
+
+parted : (n top : ℕ) (d : List ℕ) → Rising n top d
+    → Rising (suc n) top (past n d) × (((headed n d ≡ true) × (d ≡ n ∷ past n d) × (n < top)) ⊎ ((headed n d ≡ false) × (d ≡ past n d)))
+unfolding headed past
+parted n top [] r = (tt, inr (refl, refl))
+parted n top (x ∷ d) r = ⊎-elim
+    (λ p. rw (eq-eqb x n p) (subst (λ (y : ℕ). Rising (suc y) top d) p (r .2), inl (refl, ap (λ (y : ℕ). y ∷ d) p, omega (arith, p, r .1))))
+    (λ p. rw (ne-eqb x n p) ((omega (arith, p, r .0), r .1, r .2), inr (refl, refl))) (decide (says-eq x n))
 
 -- m flags for the numbers from n on: those in the rising list d are set
 flags : ℕ → ℕ → List ℕ → List Bool
 flags n zero d = []
-flags n (suc m) [] = false ∷ flags (suc n) m []
-flags n (suc m) (x ∷ d) = pick n x (ℕ-discrete x n) (flags (suc n) m d) (flags (suc n) m (x ∷ d))
+flags n (suc m) d = headed n d ∷ flags (suc n) m (past n d)
 
 flags-long : (n m : ℕ) (d : List ℕ) → length (flags n m d) ≡ m
-unfolding flags pick
+unfolding flags
 flags-long n zero d = refl
-flags-long n (suc m) [] = ap suc (flags-long (suc n) m [])
-flags-long n (suc m) (x ∷ d) = go (ℕ-discrete x n) (flags-long (suc n) m d) (flags-long (suc n) m (x ∷ d))
-  where
-    go : (e : Dec (x ≡ n)) → length (flags (suc n) m d) ≡ m → length (flags (suc n) m (x ∷ d)) ≡ m → length (pick n x e (flags (suc n) m d) (flags (suc n) m (x ∷ d))) ≡ suc m
-    go (yes p) a b = ap suc a
-    go (no p) a b = ap suc b
+flags-long n (suc m) d = ap suc (flags-long (suc n) m (past n d))
 
 rising-flags : (n m top : ℕ) (d : List ℕ) → top ≤ n + m → Rising n top d → rising n (flags n m d) ≡ d
-unfolding flags pick
+unfolding flags
 rising-flags n zero top [] h r = refl
 rising-flags n zero top (x ∷ d) h r = absurd (omega (arith, r .0, r .1))
-rising-flags n (suc m) top [] h r = rising-flags (suc n) m top [] (omega arith) tt
-rising-flags n (suc m) top (x ∷ d) h r = go (ℕ-discrete x n) (λ q. rising-flags (suc n) m top d (omega arith) q) (λ q. rising-flags (suc n) m top (x ∷ d) (omega arith) q)
-  where
-    go : (e : Dec (x ≡ n)) → (Rising (suc n) top d → rising (suc n) (flags (suc n) m d) ≡ d) → (Rising (suc n) top (x ∷ d) → rising (suc n) (flags (suc n) m (x ∷ d)) ≡ x ∷ d)
-        → rising n (pick n x e (flags (suc n) m d) (flags (suc n) m (x ∷ d))) ≡ x ∷ d
-    go (yes p) a b = ap (λ (y : ℕ). y ∷ rising (suc n) (flags (suc n) m d)) (sym p) ∙ ap (λ (l : List ℕ). x ∷ l) (a (subst (λ (y : ℕ). Rising (suc y) top d) p (r .2)))
-    go (no p) a b = b (omega (arith, p, r .0), r .1, r .2)
+rising-flags n (suc m) top d h r =
+    let s = parted n top d r in
+    let rest = rising-flags (suc n) m top (past n d) (omega arith) (s .0) in
+    ⊎-elim (λ y. rw (y .0) (ap (λ (l : List ℕ). n ∷ l) rest ∙ sym (y .1))) (λ y. rw (y .0) (rest ∙ sym (y .1))) (s .1)
 
 flags-known : (n m top : ℕ) (d : List ℕ) (k : ℕ) → Rising n top d → Has (flags n m d) k → n + k < top
-unfolding flags pick
+unfolding flags
 flags-known n zero top d k r h = absurd (false≢true h)
-flags-known n (suc m) top [] zero r h = absurd (false≢true h)
-flags-known n (suc m) top [] (suc k) r h = omega (arith, flags-known (suc n) m top [] k tt h)
-flags-known n (suc m) top (x ∷ d) k r h = go (ℕ-discrete x n) k (λ j q z. flags-known (suc n) m top d j q z) (λ j q z. flags-known (suc n) m top (x ∷ d) j q z) h
-  where
-    go : (e : Dec (x ≡ n)) (k : ℕ) → ((j : ℕ) → Rising (suc n) top d → Has (flags (suc n) m d) j → suc n + j < top) → ((j : ℕ) → Rising (suc n) top (x ∷ d) → Has (flags (suc n) m (x ∷ d)) j → suc n + j < top)
-        → getD (pick n x e (flags (suc n) m d) (flags (suc n) m (x ∷ d))) k false ≡ true → n + k < top
-    go (yes p) zero a b q = omega (arith, p, r .1)
-    go (yes p) (suc k) a b q = omega (arith, a k (subst (λ (y : ℕ). Rising (suc y) top d) p (r .2)) q)
-    go (no p) zero a b q = absurd (false≢true q)
-    go (no p) (suc k) a b q = omega (arith, b k (omega (arith, p, r .0), r .1, r .2) q)
+flags-known n (suc m) top d zero r h = ⊎-elim (λ y. omega (arith, y .2)) (λ y. true-false h (y .0)) (parted n top d r .1)
+flags-known n (suc m) top d (suc k) r h = omega (arith, flags-known (suc n) m top (past n d) k (parted n top d r .0) h)
 
 -- ---- the least by flags
 
@@ -99,7 +99,8 @@ total-same v w [] f = refl
 total-same v w (x ∷ xs) f = omega (arith, f x, total-same v w xs f)
 
 module _ (ws : List ℕ) (few : length ws ≤ most-edges) (heavy : (e : ℕ) → e < length ws → 1 ≤ getD ws e 0) (w : ℕ → ℕ) (same : (e : ℕ) → getD ws e 0 ≡ w e)
-    (P : List Bool → Type 0) (Q : List ℕ → Type 0) (to : (t : List Bool) → Edges ws t → P t → Q (rising 0 t)) (rises : (d : List ℕ) → Q d → Rising 0 (length ws) d)
+    (P : List Bool → Type 0) (Q : List ℕ → Type 0) (to : (t : List Bool) → Edges ws t → P t → Q (rising 0 t))
+    (rises : (d : List ℕ) → Q d → Rising 0 (length ws) d)
     (back : (d : List ℕ) → Q d → (t : List Bool) → rising 0 t ≡ d → P t) where
   abbrev set : List ℕ → List Bool
   set d = flags 0 most-edges d
@@ -108,7 +109,10 @@ module _ (ws : List ℕ) (few : length ws ≤ most-edges) (heavy : (e : ℕ) →
   again d q = rising-flags 0 most-edges (length ws) d (omega arith) (rises d q)
 
   edges : (d : List ℕ) → Q d → Edges ws (set d)
-  edges d q = record { long = flags-long 0 most-edges d; known = λ e h. let l : e < length ws = omega (arith, flags-known 0 most-edges (length ws) d e (rises d q) h) in (l, heavy e l) }
+  edges d q = record {
+    long = flags-long 0 most-edges d;
+    known = λ e h. let l : e < length ws = omega (arith, flags-known 0 most-edges (length ws) d e (rises d q) h) in (l, heavy e l);
+  }
 
   good : (d : List ℕ) → Q d → P (set d)
   good d q = back d q (set d) (again d q)

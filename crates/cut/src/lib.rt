@@ -14,7 +14,9 @@ pub fn chosen_cut(g: Graph) -> Cut
     requires { ⌜ Sized g × Sound (graphOf g) × Orderly (length ((graphOf g) .nodes)) (ordersOf g) ⌝ }
     ensures { λ r. ⌜ Chosen g r ⌝ }
 {
-    let fits = words::fits_of(g);
+    let nodes = g.nodes;
+    let rules = g.rules;
+    let fits = words::fits_of(nodes, g.node_count, rules, g.rule_count);
     let mut lent = [[0u64; sets::WORDS]; Graph::NODES];
     let open = walk::open_orders(g, &fits, &mut lent);
     let edges = g.edges;

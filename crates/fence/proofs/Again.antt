@@ -21,24 +21,18 @@ use Rattle.request.specs.Proper.{Addressed, Proper}
 use Rattle.graph.proofs.Joined.{joined-edges, stripped-edges, stripped-sound, weight-from}
 use Rattle.graph.proofs.Members.{at-mem}
 use Rattle.graph.proofs.Runs.{written-nodes, written-sound}
-use Rattle.graph.proofs.Strip.{Place, place, stripped-fewer}
-use Rattle.graph.proofs.Written.{fenced-count, rising-within, within-more}
+use Rattle.graph.proofs.Strip.{stripped-fewer}
+use Rattle.graph.proofs.Written.{fenced-count, later-within, place, rising-within}
 
 -- no edge weighs more than its field holds
 abbrev Light : Graph → Type 0
 Light g = (i : ℕ) → i < length (g .edges) → (edge g i) .weight < 65536
 
 light-fenced : (g : Graph) (e : ℕ) → e < length (g .edges) → Light g → Light (fenced g e)
-light-fenced g e fits light i h = go (place g e fits i h)
-  where
-    go : Place g e i → (edge (fenced g e) i) .weight < 65536
-    go (inl p) = let w = light i (p .0) in omega (arith, p .4)
-    go (inr (inl p)) = let w = light e fits in omega (arith, p .3)
-    go (inr (inr p)) = let w = light e fits in omega (arith, p .3)
-
--- the rest of a cut lies within the edges still
-later-within : (g : Graph) (e : ℕ) (c : List ℕ) → Within (length (g .edges)) (e ∷ c) → Within (length ((fenced g e) .edges)) c
-later-within g e c w = within-more (length (g .edges)) (length ((fenced g e) .edges)) c (omega (arith, fenced-count g e (w .0))) (w .1)
+light-fenced g e fits light i h = elim (place g e fits i h) [
+  | inl p ↦ let w = light i (p .0) in omega (arith, p .2 .2)
+  | inr p ↦ let w = light e fits in elim p [ inl q ↦ omega (arith, q .1 .2) | inr q ↦ omega (arith, q .1 .2) ]
+]
 
 light-written : (g : Graph) (c : List ℕ) → Within (length (g .edges)) c → Light g → Light (written g c)
 light-written g [] w light = light
@@ -48,7 +42,8 @@ pub written-edges : (g : Graph) (c : List ℕ) → Within (length (g .edges)) c 
 written-edges g [] w = omega arith
 written-edges g (e ∷ c) w = omega (arith, fenced-count g e (w .0), written-edges (fenced g e) c (later-within g e c w))
 
-addressed-written : (g : Graph) (c : List ℕ) → ((x : Label) → List·Memᴰ x (g .nodes) → Addressed x) → (x : Label) → List·Memᴰ x ((written g c) .nodes) → Addressed x
+addressed-written : (g : Graph) (c : List ℕ) → ((x : Label) → List·Memᴰ x (g .nodes) → Addressed x) → (x : Label) → List·Memᴰ x ((written g c) .nodes)
+    → Addressed x
 addressed-written g [] all x m = all x m
 addressed-written g (e ∷ c) all x m = addressed-written (fenced g e) c (λ y n. go y (List·Memᴰ·append-cases (g .nodes) n)) x m
   where
@@ -59,7 +54,8 @@ addressed-written g (e ∷ c) all x m = addressed-written (fenced g e) c (λ y n
 orderly-more : (m n : ℕ) (orders : List Order) → m ≤ n → Orderly m orders → Orderly n orders
 orderly-more m n orders h o = record { ends = λ i k. let e = o .ends i k in (omega (arith, e .0), omega (arith, e .1), e .2); once = o .once }
 
-pub proper-written : (q : Request) (c : List ℕ) → Proper q → Rising 0 (length (q .graph .edges)) c → length (q .graph .nodes) + length c ≤ most-nodes → length (q .graph .edges) + length c ≤ most-edges
+pub proper-written : (q : Request) (c : List ℕ) → Proper q → Rising 0 (length (q .graph .edges)) c → length (q .graph .nodes) + length c ≤ most-nodes
+    → length (q .graph .edges) + length c ≤ most-edges
     → Proper (withGraph q (written (q .graph) c))
 proper-written q c p r few fewer = record {
   few-nodes = omega (arith, nodes);
@@ -84,17 +80,20 @@ proper-written q c p r few fewer = record {
 
 light-stripped : {g h : Graph} {t : ℕ} → Stripped g t h → Light g → Light h
 light-stripped done light = light
-light-stripped (take-off {g = g} v i m x p) light = light-stripped p (λ j h. let w = weight-from g v i m x j (omega (arith, joined-edges g v i m x)) in let b = light (w .0) (w .1) in omega (arith, w .2))
+light-stripped (take-off {g = g} v i m x p) light =
+    light-stripped p (λ j h. let w = weight-from g v i m x j (omega (arith, joined-edges g v i m x)) in let b = light (w .0) (w .1) in omega (arith, w .2))
 
 kept-front : {A : Type 0} (n : ℕ) (l : List A) (x : A) → List·Memᴰ x (take n l) → List·Memᴰ x l
 kept-front n l x m = subst (List·Memᴰ x) (take-append-drop n l) (Memᴰ·append-left (drop n l) m)
 
-addressed-stripped : {g h : Graph} {t : ℕ} → Stripped g t h → ((x : Label) → List·Memᴰ x (g .nodes) → Addressed x) → (x : Label) → List·Memᴰ x (h .nodes) → Addressed x
+addressed-stripped : {g h : Graph} {t : ℕ} → Stripped g t h → ((x : Label) → List·Memᴰ x (g .nodes) → Addressed x) → (x : Label) → List·Memᴰ x (h .nodes)
+    → Addressed x
 addressed-stripped done all x m = all x m
 addressed-stripped (take-off {g = g} v i m l p) all x n = addressed-stripped p (λ y k. all y (kept-front v (g .nodes) y k)) x n
 
 orderly-fewer : (m n : ℕ) (orders : List Order) → AllName n orders → Orderly m orders → Orderly n orders
-orderly-fewer m n orders names o = record { ends = λ i k. let e = o .ends i k in let b = names (order orders i) (at-mem no-order orders i k) in (b .0, b .1, e .2); once = o .once }
+orderly-fewer m n orders names o =
+    record { ends = λ i k. let e = o .ends i k in let b = names (order orders i) (at-mem no-order orders i k) in (b .0, b .1, e .2); once = o .once }
 
 pub proper-stripped : (q : Request) (count total : ℕ) (h : Graph) → Proper q → StripTo count (q .orders) (q .graph) total h → Proper (withGraph q h)
 proper-stripped q count total h p way = record {
@@ -106,6 +105,8 @@ proper-stripped q count total h p way = record {
   sound = stripped-sound (way .stripped) (p .sound);
   light = light-stripped (way .stripped) (p .light);
   formed = p .formed;
-  orderly = orderly-fewer (length (q .graph .nodes)) (length (h .nodes)) (q .orders) (subst⁻¹ (λ (n : ℕ). AllName n (q .orders)) (way .left) (way .names)) (p .orderly);
+  orderly =
+      orderly-fewer (length (q .graph .nodes)) (length (h .nodes)) (q .orders) (subst⁻¹ (λ (n : ℕ). AllName n (q .orders)) (way .left) (way .names))
+      (p .orderly);
   fences = p .fences;
 }

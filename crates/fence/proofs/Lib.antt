@@ -1,6 +1,6 @@
 -- The laws of the public operations.
 pub mod Reading
-pub mod Unread
+pub mod Refusals
 pub mod Ran
 pub mod Fenced
 pub mod Showing
@@ -11,3 +11,4 @@ pub mod Unique
 pub mod Again
 pub mod Demands
 pub mod Samples
+pub mod Main

@@ -8,15 +8,14 @@ use lib.ListN.{length}
 use Rattle.fence.specs.declared.Report.{Report}
 use Rattle.request.specs.declared.Answer.{Answer}
 use Rattle.request.specs.declared.Answer.the-variants.{NotLoose, ShortBuffer}
-use Rattle.fence.specs.Outcome.{Reads, StripBad, StripOutcome, accepted, in-file, not-loose, over, refusal, refused, too-short, withGraph}
-use Rattle.graph.specs.Cut.{total, weight}
+use Rattle.fence.specs.Outcome.{StripBad, StripOutcome, accepted, in-file, not-loose, over, refusal, refused, too-short, withGraph}
 use Rattle.graph.specs.Graph.{Graph}
 use Rattle.graph.specs.Strip.{StripTo}
 use Rattle.request.specs.Answers.{rank}
 use Rattle.request.specs.File.{Request, bytes}
-use Rattle.request.specs.Earliest.{earliest}
 use Rattle.fence.proofs.Reading.{reads-clean, reads-unique}
-use Rattle.graph.proofs.Strip.{place, stripped-unique}
+use Rattle.graph.proofs.Strip.{stripped-unique}
+use Rattle.request.specs.Proper.{Reads}
 
 module _ (s : List ℕ) (q : Request) (count : ℕ) (reads : Reads s q) (before : List ℕ) where
   pub strip-stuck : ((total : ℕ) (h : Graph) → ¬ StripTo count (q .orders) (q .graph) total h) → StripOutcome s count before (refusal NotLoose 0) before
@@ -47,11 +46,13 @@ module _ (s : List ℕ) (q : Request) (count : ℕ) (reads : Reads s q) (before 
         low a p (too-short k t j x y z) = omega arith
 
     pub strip-accepted : length (bytes (withGraph q h)) ≤ length before → (r : Report) (after : List ℕ)
-        → r ≡ record { answer = 0; place = 0; fences = length (q .graph .nodes) - count; weight = total; length = length (bytes (withGraph q h)) } → after ≡ over before (bytes (withGraph q h))
+        → r ≡ record { answer = 0; place = 0; fences = length (q .graph .nodes) - count; weight = total; length = length (bytes (withGraph q h)) }
+        → after ≡ over before (bytes (withGraph q h))
         → StripOutcome s count before r after
     strip-accepted l r after e f = accepted q total h reads way none-bad e f
       where
         none-bad : (a : Answer) (p : ℕ) → ¬ StripBad s count (length before) a p
         none-bad a p (in-file b) = reads-clean reads b
         none-bad a p (not-loose k x y) = not-stuck k x y
-        none-bad a p (too-short k t j x y z) = let w : length before < length (bytes (withGraph q h)) = same (λ r g. length before < length (bytes (withGraph r g))) k t j x y z in omega arith
+        none-bad a p (too-short k t j x y z) =
+            let w : length before < length (bytes (withGraph q h)) = same (λ r g. length before < length (bytes (withGraph r g))) k t j x y z in omega arith

@@ -9,15 +9,14 @@ use lib.ListN.{length}
 use Rattle.fence.specs.declared.Report.{Report}
 use Rattle.request.specs.declared.Answer.{Answer}
 use Rattle.request.specs.declared.Answer.the-variants.{NoRoom, ShortBuffer}
-use Rattle.fence.specs.Outcome.{Reads, RunBad, RunOutcome, accepted, fencedFile, in-file, no-room, over, refusal, refused, too-short}
+use Rattle.fence.specs.Outcome.{RunBad, RunOutcome, accepted, fencedFile, in-file, no-room, over, refusal, refused, too-short}
 use Rattle.graph.specs.Cut.{ChosenCut, weight}
 use Rattle.graph.specs.Limits.{most-edges, most-nodes}
 use Rattle.request.specs.Answers.{rank}
 use Rattle.request.specs.File.{Request}
-use Rattle.request.specs.Earliest.{earliest}
 use Rattle.fence.proofs.Reading.{reads-clean, reads-unique}
-use Rattle.graph.proofs.Strip.{place}
 use Rattle.graph.proofs.Unique.{best-unique}
+use Rattle.request.specs.Proper.{Reads}
 
 -- with the fences the graph passes a limit
 abbrev pub Crowded : Request → List ℕ → Type 0
@@ -50,10 +49,12 @@ module _ (s : List ℕ) (q : Request) (c : List ℕ) (reads : Reads s q) (chosen
           low a p (too-short k d x y z) = omega arith
 
       pub run-accepted : length (fencedFile q c) ≤ length before → (r : Report) (after : List ℕ)
-          → r ≡ record { answer = 0; place = 0; fences = length c; weight = weight (q .graph) c; length = length (fencedFile q c) } → after ≡ over before (fencedFile q c) → RunOutcome s before r after
+          → r ≡ record { answer = 0; place = 0; fences = length c; weight = weight (q .graph) c; length = length (fencedFile q c) }
+          → after ≡ over before (fencedFile q c) → RunOutcome s before r after
       run-accepted h r after e f = accepted q c reads chosen none-bad e f
         where
           none-bad : (a : Answer) (p : ℕ) → ¬ RunBad s (length before) a p
           none-bad a p (in-file b) = reads-clean reads b
           none-bad a p (no-room k d x y z) = roomy (same Crowded k d x y z)
-          none-bad a p (too-short k d x y z) = let w : length before < length (fencedFile q c) = same (λ r l. length before < length (fencedFile r l)) k d x y z in omega arith
+          none-bad a p (too-short k d x y z) =
+              let w : length before < length (fencedFile q c) = same (λ r l. length before < length (fencedFile r l)) k d x y z in omega arith

@@ -10,15 +10,14 @@ use lib.Seq.{append-snoc, drop-cons, length-take-le, set-at, take-suc}
 use Rattle.fence.specs.declared.Shown.{Shown}
 use Rattle.request.specs.declared.Answer.{Answer}
 use Rattle.request.specs.declared.Answer.the-variants.{NoSuchOrder, ShortBuffer}
-use Rattle.fence.specs.Outcome.{AskBad, AskOutcome, Reads, accepted, in-file, no-such-order, over, refused, too-short}
+use Rattle.fence.specs.Outcome.{AskBad, AskOutcome, accepted, in-file, no-such-order, over, refused, too-short}
 use Rattle.graph.specs.Ask.{Asked}
 use Rattle.graph.specs.Graph.{order}
 use Rattle.graph.specs.Limits.{most-nodes}
 use Rattle.request.specs.Answers.{number, rank}
 use Rattle.request.specs.File.{Request}
-use Rattle.request.specs.Earliest.{earliest}
 use Rattle.fence.proofs.Reading.{reads-clean, reads-unique}
-use Rattle.graph.proofs.Strip.{place}
+use Rattle.request.specs.Proper.{Reads}
 
 module _ (s : List ℕ) (q : Request) (k : ℕ) (reads : Reads s q) (before : List ℕ) where
   pub ask-number : length (q .orders) ≤ k → AskOutcome s k before (record { answer = number NoSuchOrder; place = 0; length = 0 }) before
@@ -51,9 +50,6 @@ module _ (s : List ℕ) (q : Request) (k : ℕ) (reads : Reads s q) (before : Li
         none-bad a p (too-short x) = omega arith
 
 -- ---- a route copied to the front of a buffer
-
-pub copied-none : (o xs : List ℕ) → o ≡ take 0 xs ++ drop 0 o
-copied-none o xs = refl
 
 pub copied-more : (o xs : List ℕ) (i : ℕ) → i < length o → i < length xs → set (take i xs ++ drop i o) i (getD xs i 0) ≡ take (i + 1) xs ++ drop (i + 1) o
 copied-more o xs i h l = rw add-one (

@@ -1,5 +1,4 @@
 -- What the public operations promise.
 pub mod Outcome
-pub mod Ready
 pub mod Demands
 pub mod Samples

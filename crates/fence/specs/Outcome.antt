@@ -10,7 +10,7 @@ use Rattle.fence.specs.declared.Shown.{Shown}
 use Rattle.request.specs.declared.Answer.{Answer}
 use Rattle.request.specs.declared.Answer.the-variants.{NoRoom, NoSuchOrder, NotLoose, ShortBuffer}
 use Rattle.graph.specs.Ask.{Asked}
-use Rattle.graph.specs.Cut.{ChosenCut, total, weight}
+use Rattle.graph.specs.Cut.{ChosenCut, weight}
 use Rattle.graph.specs.Graph.{Graph, order}
 use Rattle.graph.specs.Limits.{most-edges, most-nodes}
 use Rattle.graph.specs.Refusal.{Refused}
@@ -19,12 +19,7 @@ use Rattle.graph.specs.Written.{written}
 use Rattle.request.specs.Answers.{number, rank}
 use Rattle.request.specs.Bad.{Bad}
 use Rattle.request.specs.File.{Request, bytes}
-use Rattle.request.specs.Proper.{Proper}
-
--- the file is the bytes of the request, which is one that document 01 allows
-pub record Reads (s : List ℕ) (q : Request) : Type 0 where
-  pub is-bytes : s ≡ bytes q
-  pub proper : Proper q
+use Rattle.request.specs.Proper.{Reads}
 
 -- "Rules and orders are unchanged."
 abbrev pub withGraph : Request → Graph → Request
@@ -47,7 +42,8 @@ pub data RunBad (s : List ℕ) (room : ℕ) : Answer → ℕ → Type 0 where
   no-room : (q : Request) (c : List ℕ) → Reads s q → ChosenCut (q .graph) (q .rules) (q .orders) c
       → (most-nodes < length (q .graph .nodes) + length c) ⊎ (most-edges < length (q .graph .edges) + length c) → RunBad s room NoRoom 0
   -- "output shorter than what must be written"
-  too-short : (q : Request) (c : List ℕ) → Reads s q → ChosenCut (q .graph) (q .rules) (q .orders) c → room < length (fencedFile q c) → RunBad s room ShortBuffer 0
+  too-short : (q : Request) (c : List ℕ) → Reads s q → ChosenCut (q .graph) (q .rules) (q .orders) c → room < length (fencedFile q c)
+      → RunBad s room ShortBuffer 0
 
 -- "All refusals return zeros beside answer and place and write nothing."
 abbrev pub refusal : Answer → ℕ → Report
@@ -62,6 +58,10 @@ pub data RunOutcome (s before : List ℕ) (r : Report) (after : List ℕ) : Type
 
 -- ---- ask
 
+-- the same of ask
+abbrev pub unshown : Answer → ℕ → Shown
+unshown a p = record { answer = number a; place = p; length = 0 }
+
 -- which of ask's answers apply where: 1 to 8 and 11
 pub data AskBad (s : List ℕ) (k room : ℕ) : Answer → ℕ → Type 0 where
   in-file : {a : Answer} {p : ℕ} → Bad s a p → AskBad s k room a p
@@ -72,8 +72,9 @@ pub data AskBad (s : List ℕ) (k room : ℕ) : Answer → ℕ → Type 0 where
 
 -- "Ask returns: answer, place, route length (the number of its nodes), and writes the node numbers of the route to a lent buffer of 16-bit numbers."
 pub data AskOutcome (s : List ℕ) (k : ℕ) (before : List ℕ) (r : Shown) (after : List ℕ) : Type 0 where
-  refused : (a : Answer) (p : ℕ) → Refused rank (AskBad s k (length before)) a p → r ≡ record { answer = number a; place = p; length = 0 } → after ≡ before → AskOutcome s k before r after
-  accepted : (q : Request) (route : List ℕ) → Reads s q → Asked (q .graph) (q .rules) (order (q .orders) k) route → ((a : Answer) (p : ℕ) → ¬ AskBad s k (length before) a p)
+  refused : (a : Answer) (p : ℕ) → Refused rank (AskBad s k (length before)) a p → r ≡ unshown a p → after ≡ before → AskOutcome s k before r after
+  accepted : (q : Request) (route : List ℕ) → Reads s q → Asked (q .graph) (q .rules) (order (q .orders) k) route
+      → ((a : Answer) (p : ℕ) → ¬ AskBad s k (length before) a p)
       → r ≡ record { answer = 0; place = 0; length = length route }
       → after ≡ over before route → AskOutcome s k before r after
 
@@ -85,11 +86,13 @@ pub data StripBad (s : List ℕ) (count room : ℕ) : Answer → ℕ → Type 0 
   -- "Any miss is refusal 10."
   not-loose : (q : Request) → Reads s q → ((total : ℕ) (h : Graph) → ¬ StripTo count (q .orders) (q .graph) total h) → StripBad s count room NotLoose 0
   -- "output shorter than what must be written"
-  too-short : (q : Request) (total : ℕ) (h : Graph) → Reads s q → StripTo count (q .orders) (q .graph) total h → room < length (bytes (withGraph q h)) → StripBad s count room ShortBuffer 0
+  too-short : (q : Request) (total : ℕ) (h : Graph) → Reads s q → StripTo count (q .orders) (q .graph) total h → room < length (bytes (withGraph q h))
+      → StripBad s count room ShortBuffer 0
 
 -- "Strip's fences are those removed, its weight the sum of the weights of the pairs rejoined."
 pub data StripOutcome (s : List ℕ) (count : ℕ) (before : List ℕ) (r : Report) (after : List ℕ) : Type 0 where
   refused : (a : Answer) (p : ℕ) → Refused rank (StripBad s count (length before)) a p → r ≡ refusal a p → after ≡ before → StripOutcome s count before r after
-  accepted : (q : Request) (total : ℕ) (h : Graph) → Reads s q → StripTo count (q .orders) (q .graph) total h → ((a : Answer) (p : ℕ) → ¬ StripBad s count (length before) a p)
+  accepted : (q : Request) (total : ℕ) (h : Graph) → Reads s q → StripTo count (q .orders) (q .graph) total h
+      → ((a : Answer) (p : ℕ) → ¬ StripBad s count (length before) a p)
       → r ≡ record { answer = 0; place = 0; fences = length (q .graph .nodes) - count; weight = total; length = length (bytes (withGraph q h)) }
       → after ≡ over before (bytes (withGraph q h)) → StripOutcome s count before r after

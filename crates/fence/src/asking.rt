@@ -8,9 +8,9 @@ ghost use mathlib.Core.Path.{_≡_};
 ghost use Prim.Native.Nat.{ℕ, _≤_};
 ghost use lib.ListN.{length, take, drop};
 ghost use Rattle.graph.specs.Limits.{most-nodes};
-ghost use Rattle.writing.specs.Write.{requestIn};
-ghost use Rattle.fence.specs.Outcome.{Reads, AskOutcome};
-ghost use Rattle.fence.specs.Ready.{Ready};
+ghost use Rattle.fence.specs.Outcome.{AskOutcome};
+ghost use Rattle.request.specs.Value.{Ready, requestIn};
+ghost use Rattle.request.specs.Proper.{Reads};
 
 // Copies the first n nodes of a route.
 fn put_route(out: &mut [u16], nodes: [u16; Graph::NODES], n: usize) -> usize
@@ -37,7 +37,9 @@ pub fn ask(g: Graph, order: u64, route: &mut [u16]) -> Shown
         return unshown(Answer::ShortBuffer, 0);
     }
     let succ = words::succ_of(g);
-    let fits = words::fits_of(g);
+    let nodes = g.nodes;
+    let rules = g.rules;
+    let fits = words::fits_of(nodes, g.node_count, rules, g.rule_count);
     let mut scratch = [[0u64; sets::WORDS]; Graph::NODES];
     let o = g.orders[order as usize];
     let way = walk::open_route(
@@ -48,8 +50,8 @@ pub fn ask(g: Graph, order: u64, route: &mut [u16]) -> Shown
         o.first as usize,
         o.second as usize,
     );
-    let nodes = way.nodes;
-    let length = put_route(route, nodes, way.len);
+    let shown = way.nodes;
+    let length = put_route(route, shown, way.len);
     Shown {
         answer: 0,
         place: 0,

@@ -9,9 +9,9 @@ use writing::size_of;
 use writing::write_request;
 ghost use mathlib.Core.List.{List};
 ghost use Prim.Native.Nat.{ℕ};
-ghost use Rattle.writing.specs.Write.{requestIn};
-ghost use Rattle.fence.specs.Outcome.{Reads, RunOutcome};
-ghost use Rattle.fence.specs.Ready.{Ready};
+ghost use Rattle.fence.specs.Outcome.{RunOutcome};
+ghost use Rattle.request.specs.Value.{Ready, requestIn};
+ghost use Rattle.request.specs.Proper.{Reads};
 
 pub fn run(g: Graph, out: &mut [u8]) -> Report
     requires { ⌜ Ready g ⌝ }

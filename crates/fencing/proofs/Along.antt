@@ -11,6 +11,7 @@ use Rattle.graph.specs.Graph.{Graph}
 use Rattle.graph.specs.Limits.{most-edges, most-nodes}
 use Rattle.graph.specs.Value.{Roomy, Sized, graphOf, rising}
 use Rattle.graph.specs.Written.{fenced, written}
+use Rattle.fencing.proofs.Keeping.{kept-same, kept-then}
 use Rattle.fencing.proofs.Flags.{rising-no, rising-yes}
 use Rattle.graph.specs.declared.Graph as Value
 
@@ -23,11 +24,12 @@ pub record Along (flags : List Bool) (g r : Value.Graph) (i : ℕ) : Type 0 wher
   pub kept : Kept g r
   pub roomy : Roomy r
 
-module _ (flags : List Bool) (g : Value.Graph) where
+module _ {flags : List Bool} {g : Value.Graph} where
   pub along-start : Roomy g → Along flags g g 0
-  along-start roomy = record { same = refl; nodes = refl; edges = refl; more = omega arith; kept = record { rules = refl; rule-count = refl; orders = refl; order-count = refl }; roomy = roomy }
+  along-start roomy =
+      record { same = refl; nodes = refl; edges = refl; more = omega arith; kept = kept-same; roomy = roomy }
 
-  module _ (r : Value.Graph) (i : ℕ) (h : i < length flags) (a : Along flags g r i) where
+  module _ {r : Value.Graph} {i : ℕ} (h : i < length flags) (a : Along flags g r i) where
     pub along-no : getD flags i false ≡ false → Along flags g r (i + 1)
     along-no e = let c = rising-no flags i h e in record {
       same = ap (written (graphOf r)) (sym c) ∙ a .same;
@@ -42,25 +44,22 @@ module _ (flags : List Bool) (g : Value.Graph) where
       one-more : length (rising i (drop i flags)) ≡ suc (length (rising (i + 1) (drop (i + 1) flags)))
       one-more = ap length (rising-yes flags i h e)
 
-      pub along-room : g .«node_count» + length (rising 0 flags) ≤ most-nodes → g .«edge_count» + length (rising 0 flags) ≤ most-edges → (r .«node_count» < most-nodes) × (r .«edge_count» < most-edges)
+      pub along-room : g .«node_count» + length (rising 0 flags) ≤ most-nodes → g .«edge_count» + length (rising 0 flags) ≤ most-edges
+          → (r .«node_count» < most-nodes) × (r .«edge_count» < most-edges)
       along-room p q = (omega (arith, a .nodes, one-more), omega (arith, a .edges, one-more))
 
-      pub along-yes : (s : Value.Graph) → graphOf s ≡ fenced (graphOf r) i → (s .«node_count» ≡ r .«node_count» + 1) × (s .«edge_count» ≡ r .«edge_count» + 1) → Kept r s × Roomy s → Along flags g s (i + 1)
-      along-yes s f n k = record {
+      pub along-yes : {s : Value.Graph} → graphOf s ≡ fenced (graphOf r) i → (s .«node_count» ≡ r .«node_count» + 1) × (s .«edge_count» ≡ r .«edge_count» + 1)
+          → Kept r s × Roomy s → Along flags g s (i + 1)
+      along-yes f n k = record {
         same = ap (λ (x : Graph). written x (rising (i + 1) (drop (i + 1) flags))) f ∙ sym (ap (written (graphOf r)) (rising-yes flags i h e)) ∙ a .same;
         nodes = omega (arith, n .0, a .nodes, one-more);
         edges = omega (arith, n .1, a .edges, one-more);
         more = omega (arith, n .1, a .more);
-        kept = record {
-          rules = k .0 .rules ∙ a .kept .rules;
-          rule-count = k .0 .rule-count ∙ a .kept .rule-count;
-          orders = k .0 .orders ∙ a .kept .orders;
-          order-count = k .0 .order-count ∙ a .kept .order-count;
-        };
+        kept = kept-then (a .kept) (k .0);
         roomy = k .1;
       }
 
-  module _ (r : Value.Graph) (i : ℕ) (a : Along flags g r i) (last : rising i (drop i flags) ≡ []) where
+  module _ {r : Value.Graph} {i : ℕ} (a : Along flags g r i) (last : rising i (drop i flags) ≡ []) where
     pub along-same : graphOf r ≡ written (graphOf g) (rising 0 flags)
     along-same = sym (ap (written (graphOf r)) last) ∙ a .same
 

@@ -1,7 +1,7 @@
 -- Fences taken off one by one: what is left at each turn, and that a loop that stops early has to.
 -- Assumes nothing.
 use mathlib.Core.List.{List}
-use mathlib.Core.Path.{_∙_, _≡_, ap, ap₂, refl, subst, subst₃, sym}
+use mathlib.Core.Path.{_∙_, _≡_, ap, ap₂, subst, subst₃, sym}
 use Prim.Native.Nat.{_*_, _+_, _<_, _≤_, ℕ}
 use native.Mathlib.Omega.{arith}
 use lib.ListN.{getD, length, length-set, set, take}
@@ -9,14 +9,13 @@ use lib.Seq.{take-set-lt, take-take}
 use Rattle.graph.specs.declared.Edge.{Edge}
 use Rattle.graph.specs.declared.Node.{Node}
 use Rattle.fencing.specs.Kept.{Kept}
-use Rattle.fencing.specs.Left.{Off, Rejoined, Top, loose, off, stuck, tight}
-use Rattle.graph.specs.Cut.{total, weight}
+use Rattle.fencing.specs.Left.{Off, Rejoined, Top, loose, tight}
 use Rattle.graph.specs.Graph.{Graph, edge, no-edge}
-use Rattle.graph.specs.Limits.{most-edges}
 use Rattle.graph.specs.Strip.{Loose, Stripped, done, joined, take-off}
 use Rattle.graph.specs.Value.{Roomy, Sized, graphOf, labels}
 use Rattle.graph.proofs.Strip.{joined-count, stripped-fewer, stripped-snoc}
 use Rattle.graph.proofs.Value.{edge-at, edge-total, labels-take, node-total}
+use Rattle.fencing.proofs.Keeping.{kept-same, kept-then}
 use Rattle.graph.specs.declared.Graph as Value
 
 -- what is stripped further has passed through h
@@ -30,7 +29,8 @@ through {h} {k} (take-off {g = g} v i m l p) (take-off {total = t₂} v′ i′ 
     through p (subst₃ (λ (a b c : ℕ). Stripped (joined g a b c) t₂ k) ve ie me p′) e
 
 -- where nothing is loose and too many nodes are left, there is no way
-no-way : {g h : Graph} {t : ℕ} (c : ℕ) → Stripped g t h → ((v i m : ℕ) → ¬ Loose h v i m) → c < length (h .nodes) → (u : ℕ) (k : Graph) → Stripped g u k → length (k .nodes) ≡ c → ⊥
+pub no-way : {g h : Graph} {t : ℕ} (c : ℕ) → Stripped g t h → ((v i m : ℕ) → ¬ Loose h v i m) → c < length (h .nodes) → (u : ℕ) (k : Graph) → Stripped g u k
+    → length (k .nodes) ≡ c → ⊥
 no-way {g} {h} c p f l u k q e = go (through p q (omega arith))
   where
     first : {h k : Graph} {w : ℕ} → Stripped h w k → ((v i m : ℕ) → ¬ Loose h v i m) → length (k .nodes) < length (h .nodes) → ⊥
@@ -42,18 +42,25 @@ no-way {g} {h} c p f l u k q e = go (through p q (omega arith))
 
 -- ---- one fence
 
-module _ (g h : Value.Graph) (i : ℕ) (roomy : Roomy g) (r : Rejoined g i h) (x : i < h .«edge_count») (few : g .«edge_count» ≤ most-edges) where
+module _ {g h : Value.Graph} {i : ℕ} (roomy : Roomy g) (r : Rejoined g i h) (x : i < h .«edge_count») where
   pub joined-is : graphOf h ≡ joined (graphOf g) (h .«node_count») i (h .«edge_count»)
   joined-is = λ k. record { nodes = nodes k; edges = edges k }
     where
       nodes : (graphOf h) .nodes ≡ take (h .«node_count») ((graphOf g) .nodes)
-      nodes = ap (λ (ns : List Node). labels (take (h .«node_count») ns)) (r .nodes) ∙ sym (labels-take (h .«node_count») (g .«node_count») (g .nodes) (omega (arith, r .fewer-nodes)))
+      nodes =
+          ap (λ (ns : List Node). labels (take (h .«node_count») ns)) (r .nodes)
+          ∙ sym (labels-take (h .«node_count») (g .«node_count») (g .nodes) (omega (arith, r .fewer-nodes)))
 
       old : (j : ℕ) → j < g .«edge_count» → getD (g .edges) j no-edge ≡ edge (graphOf g) j
       old j b = sym (edge-at g j b)
 
       pair : Edge
-      pair = record { from = (getD (g .edges) i no-edge) .from; to = (getD (g .edges) (h .«edge_count») no-edge) .to; weight = (getD (g .edges) i no-edge) .weight }
+      pair =
+          record {
+            from = (getD (g .edges) i no-edge) .from;
+            to = (getD (g .edges) (h .«edge_count») no-edge) .to;
+            weight = (getD (g .edges) i no-edge) .weight;
+          }
 
       new : pair ≡ record { from = (edge (graphOf g) i) .from; to = (edge (graphOf g) (h .«edge_count»)) .to; weight = (edge (graphOf g) i) .weight }
       new = λ k. record {
@@ -69,7 +76,7 @@ module _ (g h : Value.Graph) (i : ℕ) (roomy : Roomy g) (r : Rejoined g i h) (x
   pub roomy-joined : Roomy h
   roomy-joined = record {
     nodes = ap length (r .nodes) ∙ roomy .nodes;
-    edges = ap length (r .edges) ∙ length-set (g .edges) i (record { from = (getD (g .edges) i no-edge) .from; to = (getD (g .edges) (h .«edge_count») no-edge) .to; weight = (getD (g .edges) i no-edge) .weight }) ∙ roomy .edges;
+    edges = ap length (r .edges) ∙ simp length-set (roomy .edges);
     rules = ap length (r .kept .rules) ∙ roomy .rules;
     orders = ap length (r .kept .orders) ∙ roomy .orders;
   }
@@ -90,22 +97,24 @@ pub going-start : (g : Value.Graph) → Sized g → Roomy g → Going g g 0
 going-start g sized roomy = record {
   sized = sized;
   roomy = roomy;
-  kept = record { rules = refl; rule-count = refl; orders = refl; order-count = refl };
+  kept = kept-same;
   fewer = omega arith;
   paired = omega arith;
   light = omega arith;
   stripped = done;
 }
 
-module _ (g h : Value.Graph) (w : ℕ) (st : Going g h w) where
-  taken : (k : Value.Graph) (v i l w′ : ℕ) → Rejoined h i k → w′ ≡ w + (getD (h .edges) i no-edge) .weight → (getD (h .edges) i no-edge) .weight < 65536 → Loose (graphOf h) v i l → Going g k w′
-  taken k v i l w′ r hw small x =
+module _ {g h : Value.Graph} {w : ℕ} (st : Going g h w) where
+  taken : {k : Value.Graph} {v i l w′ : ℕ} → Rejoined h i k → w′ ≡ w + (getD (h .edges) i no-edge) .weight → (getD (h .edges) i no-edge) .weight < 65536
+      → Loose (graphOf h) v i l → Going g k w′
+  taken {k} {v} {i} {l} {w′} r hw small x =
       let n : length ((graphOf h) .nodes) ≡ h .«node_count» = node-total h (st .sized) (st .roomy) in
       let m : length ((graphOf h) .edges) ≡ h .«edge_count» = edge-total h (st .sized) (st .roomy) in
       let ve : v ≡ k .«node_count» = omega (arith, x .highest, r .fewer-nodes) in
       let le : l ≡ k .«edge_count» = omega (arith, x .last, r .fewer-edges) in
       let lower : i < k .«edge_count» = omega (arith, x .two) in
-      let e : joined (graphOf h) v i l ≡ graphOf k = ap₂ (λ (a b : ℕ). joined (graphOf h) a i b) ve le ∙ sym (joined-is h k i (st .roomy) r lower (st .sized .edges)) in
+      let e : joined (graphOf h) v i l ≡ graphOf k = ap₂ (λ (a b : ℕ). joined (graphOf h) a i b) ve le
+      ∙ sym (joined-is (st .roomy) r lower) in
       record {
         sized = record {
           nodes = omega (arith, st .sized .nodes, r .fewer-nodes);
@@ -113,26 +122,25 @@ module _ (g h : Value.Graph) (w : ℕ) (st : Going g h w) where
           rules = omega (arith, st .sized .rules, r .kept .rule-count);
           orders = omega (arith, st .sized .orders, r .kept .order-count);
         };
-        roomy = roomy-joined h k i (st .roomy) r lower (st .sized .edges);
-        kept = record {
-          rules = r .kept .rules ∙ st .kept .rules;
-          rule-count = r .kept .rule-count ∙ st .kept .rule-count;
-          orders = r .kept .orders ∙ st .kept .orders;
-          order-count = r .kept .order-count ∙ st .kept .order-count;
-        };
+        roomy = roomy-joined (st .roomy) r lower;
+        kept = kept-then (st .kept) (r .kept);
         fewer = omega (arith, st .fewer, r .fewer-nodes);
         paired = omega (arith, st .paired, r .fewer-nodes, r .fewer-edges);
         light = omega (arith, st .light, r .fewer-nodes);
-        stripped = subst (Stripped (graphOf g) w′) e (stripped-snoc (st .stripped) v i l x w′ (hw ∙ ap (λ (y : Edge). w + y .weight) (sym (edge-at h i (omega (arith, r .fewer-edges))))));
+        stripped =
+            subst (Stripped (graphOf g) w′) e
+            (stripped-snoc (st .stripped) v i l x w′ (hw ∙ ap (λ (y : Edge). w + y .weight) (sym (edge-at h i (omega (arith, r .fewer-edges))))));
       }
 
-  pub going-more : (k : Value.Graph) (i w′ : ℕ) → Rejoined h i k → w′ ≡ w + (getD (h .edges) i no-edge) .weight → (getD (h .edges) i no-edge) .weight < 65536 → i < h .«edge_count» → Top (graphOf h) i → Going g k w′
-  going-more k i w′ r hw small b (loose v l x) = taken k v i l w′ r hw small x
-  going-more k i w′ r hw small b (tight q f) = absurd (let z : ⊥ = omega (arith, edge-total h (st .sized) (st .roomy)) in z)
+  pub going-more : {k : Value.Graph} {i w′ : ℕ} → Rejoined h i k → w′ ≡ w + (getD (h .edges) i no-edge) .weight → (getD (h .edges) i no-edge) .weight < 65536
+      → i < h .«edge_count» → Top (graphOf h) i → Going g k w′
+  going-more r hw small b (loose v l x) = taken r hw small x
+  going-more r hw small b (tight q f) = absurd (let z : ⊥ = omega (arith, edge-total h (st .sized) (st .roomy)) in z)
 
-  pub going-stuck : (c r : ℕ) → c < h .«node_count» → h .«edge_count» ≤ r → Top (graphOf h) r → Off (graphOf g) c (h .«node_count») w (graphOf h)
-  going-stuck c r a b (loose v l x) = absurd (let z : ⊥ = omega (arith, x .two, x .last, edge-total h (st .sized) (st .roomy)) in z)
-  going-stuck c r a b (tight q f) = stuck a (no-way c (st .stripped) f (omega (arith, node-total h (st .sized) (st .roomy))))
+  pub going-stuck : {c r : ℕ} → c < h .«node_count» → h .«edge_count» ≤ r → Top (graphOf h) r → Off (graphOf g) c (h .«node_count») w (graphOf h)
+  going-stuck a b (loose v l x) = absurd (let z : ⊥ = omega (arith, x .two, x .last, edge-total h (st .sized) (st .roomy)) in z)
+  going-stuck a b (tight q f) = record { stripped = st .stripped; left = node-total h (st .sized) (st .roomy); enough = omega arith; early = λ l. f }
 
-  pub going-end : (c : ℕ) → c ≤ h .«node_count» → h .«node_count» ≤ c → Off (graphOf g) c (h .«node_count») w (graphOf h)
-  going-end c a b = off (omega arith) (st .stripped)
+  pub going-end : {c : ℕ} → c ≤ h .«node_count» → h .«node_count» ≤ c → Off (graphOf g) c (h .«node_count») w (graphOf h)
+  going-end a b =
+      record { stripped = st .stripped; left = node-total h (st .sized) (st .roomy); enough = a; early = λ l v i m x. absurd (let z : ⊥ = omega arith in z) }

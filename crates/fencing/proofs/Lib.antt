@@ -1,4 +1,5 @@
 -- The laws of fences put on and taken off.
+pub mod Keeping
 pub mod Flags
 pub mod Placed
 pub mod Along

@@ -9,8 +9,7 @@ use lib.ListN.{getD, length, length-set, set, take}
 use lib.Seq.{length-take-le, take-suc-set, take-set-lt}
 use Rattle.graph.specs.declared.Edge.{Edge}
 use Rattle.graph.specs.declared.Label.the-variants.{Fence}
-use Rattle.graph.specs.Cut.{weight}
-use Rattle.graph.specs.Graph.{label, no-edge}
+use Rattle.graph.specs.Graph.{no-edge}
 use Rattle.graph.specs.Limits.{most-edges, most-nodes}
 use Rattle.graph.specs.Value.{Roomy, graphOf, labels}
 use Rattle.graph.specs.Written.{fenced}
@@ -29,7 +28,8 @@ abbrev pub with-fence : Value.Graph → ℕ → Value.Graph
 with-fence g i = record {
   nodes = set (g .nodes) (g .«node_count») (record { label = Fence });
   «node_count» = g .«node_count» + 1;
-  edges = set (set (g .edges) i (up-to (getD (g .edges) i no-edge) (g .«node_count»))) (g .«edge_count») (on-from (g .«node_count») (getD (g .edges) i no-edge));
+  edges =
+      set (set (g .edges) i (up-to (getD (g .edges) i no-edge) (g .«node_count»))) (g .«edge_count») (on-from (g .«node_count») (getD (g .edges) i no-edge));
   «edge_count» = g .«edge_count» + 1;
   rules = g .rules;
   «rule_count» = g .«rule_count»;
@@ -37,14 +37,14 @@ with-fence g i = record {
   «order_count» = g .«order_count»;
 }
 
-module _ (g : Value.Graph) (i : ℕ) (roomy : Roomy g) (h : i < g .«edge_count») (few : g .«node_count» < most-nodes) (fewer : g .«edge_count» < most-edges) where
+module _ {g : Value.Graph} {i : ℕ} (roomy : Roomy g) (h : (i < g .«edge_count») × (g .«node_count» < most-nodes) × (g .«edge_count» < most-edges)) where
   nodes-on : labels (take (g .«node_count» + 1) (set (g .nodes) (g .«node_count») (record { label = Fence }))) ≡ (graphOf g) .nodes ++ (Fence ∷ [])
   nodes-on = rw add-one (ap labels (take-suc-set (g .nodes) (g .«node_count») (record { label = Fence }) (omega (arith, roomy .nodes)))
       ∙ labels-append (take (g .«node_count») (g .nodes)) (record { label = Fence } ∷ []))
 
   edges-on : (a b : Edge) → take (g .«edge_count» + 1) (set (set (g .edges) i a) (g .«edge_count») b) ≡ set ((graphOf g) .edges) i a ++ (b ∷ [])
   edges-on a b = rw add-one (take-suc-set (set (g .edges) i a) (g .«edge_count») b (omega (arith, roomy .edges, length-set (g .edges) i a))
-      ∙ ap (λ (es : List Edge). es ++ (b ∷ [])) (take-set-lt (g .«edge_count») (g .edges) i a h))
+      ∙ ap (λ (es : List Edge). es ++ (b ∷ [])) (take-set-lt (g .«edge_count») (g .edges) i a (h .0)))
 
   pub fence-put : graphOf (with-fence g i) ≡ fenced (graphOf g) i
   fence-put = λ k. record { nodes = nodes-on k; edges = edges k }
@@ -55,15 +55,15 @@ module _ (g : Value.Graph) (i : ℕ) (roomy : Roomy g) (h : i < g .«edge_count�
       v : length ((graphOf g) .nodes) ≡ g .«node_count»
       v = labels-length (take (g .«node_count») (g .nodes)) ∙ length-take-le (g .«node_count») (g .nodes) (omega (arith, roomy .nodes))
 
-      edges : take (g .«edge_count» + 1) (set (set (g .edges) i (up-to e (g .«node_count»))) (g .«edge_count») (on-from (g .«node_count») e)) ≡ (fenced (graphOf g) i) .edges
+      edges : take (g .«edge_count» + 1)
+          (set (set (g .edges) i (up-to e (g .«node_count»))) (g .«edge_count») (on-from (g .«node_count») e)) ≡ (fenced (graphOf g) i) .edges
       edges = edges-on (up-to e (g .«node_count»)) (on-from (g .«node_count») e)
-          ∙ sym (ap₂ (λ (x : Edge) (n : ℕ). set ((graphOf g) .edges) i (up-to x n) ++ (on-from n x ∷ [])) (edge-at g i h) v)
+          ∙ sym (ap₂ (λ (x : Edge) (n : ℕ). set ((graphOf g) .edges) i (up-to x n) ++ (on-from n x ∷ [])) (edge-at g i (h .0)) v)
 
   pub roomy-put : Roomy (with-fence g i)
   roomy-put = record {
-    nodes = length-set (g .nodes) (g .«node_count») (record { label = Fence }) ∙ roomy .nodes;
-    edges = length-set (set (g .edges) i (up-to (getD (g .edges) i no-edge) (g .«node_count»))) (g .«edge_count») (on-from (g .«node_count») (getD (g .edges) i no-edge))
-        ∙ length-set (g .edges) i (up-to (getD (g .edges) i no-edge) (g .«node_count»)) ∙ roomy .edges;
+    nodes = simp length-set (roomy .nodes);
+    edges = simp length-set (roomy .edges);
     rules = roomy .rules;
     orders = roomy .orders;
   }

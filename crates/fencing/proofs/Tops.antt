@@ -154,7 +154,8 @@ module _ {g : Value.Graph} {i : ℕ} (o : SomeEnd g i) where
       (pair .here h .1 ∙ sym (ap (λ (e : Edge). e .to) l-read)))
 
 -- no way out taken: the highest node is loose
-pub loose-there : {g : Value.Graph} {i p : ℕ} → OneEach g i → (read g i) .weight ≡ (read g (last g)) .weight → FirstFrom (Joins g i) 0 (g .«edge_count») p → g .«edge_count» ≤ p → Top (graphOf g) i
+pub loose-there : {g : Value.Graph} {i p : ℕ} → OneEach g i → (read g i) .weight ≡ (read g (last g)) .weight → FirstFrom (Joins g i) 0 (g .«edge_count») p
+    → g .«edge_count» ≤ p → Top (graphOf g) i
 loose-there {g} {i} {p} s agree pair h = loose (highest g) (last g) record {
   highest = nodes b ∙ omega (arith, b .node);
   last = edges b ∙ omega (arith, b .edge);

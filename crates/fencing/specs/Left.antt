@@ -7,7 +7,6 @@ use lib.ListN.{getD, length, set}
 use Rattle.graph.specs.declared.Label.{Label}
 use Rattle.graph.specs.declared.Label.the-variants.{Fence, Load, Store}
 use Rattle.fencing.specs.Kept.{Kept}
-use Rattle.graph.specs.Cut.{total, weight}
 use Rattle.graph.specs.Graph.{Graph, no-edge}
 use Rattle.graph.specs.Strip.{Loose, Stripped}
 use Rattle.graph.specs.declared.Graph as Value
@@ -27,11 +26,17 @@ pub data Top (g : Graph) (r : ℕ) : Type 0 where
 pub record Rejoined (g : Value.Graph) (i : ℕ) (h : Value.Graph) : Type 0 where
   pub nodes : h .nodes ≡ g .nodes
   pub fewer-nodes : h .«node_count» + 1 ≡ g .«node_count»
-  pub edges : h .edges ≡ set (g .edges) i (record { from = (getD (g .edges) i no-edge) .from; to = (getD (g .edges) (h .«edge_count») no-edge) .to; weight = (getD (g .edges) i no-edge) .weight })
+  pub edges : h .edges ≡ set (g .edges) i (record {
+    from = (getD (g .edges) i no-edge) .from;
+    to = (getD (g .edges) (h .«edge_count») no-edge) .to;
+    weight = (getD (g .edges) i no-edge) .weight;
+  })
   pub fewer-edges : h .«edge_count» + 1 ≡ g .«edge_count»
   pub kept : Kept g h
 
--- n nodes are left: c, and h is what is left; or more, and g can't be stripped to c nodes
-pub data Off (g : Graph) (c n total : ℕ) (h : Graph) : Type 0 where
-  off : n ≡ c → Stripped g total h → Off g c n total h
-  stuck : c < n → ((t : ℕ) (k : Graph) → Stripped g t k → length (k .nodes) ≡ c → ⊥) → Off g c n total h
+-- what is left of g when fences are taken off until c nodes are left: n are, more than c only where the highest of them is not loose
+pub record Off (g : Graph) (c n total : ℕ) (h : Graph) : Type 0 where
+  pub stripped : Stripped g total h
+  pub left : length (h .nodes) ≡ n
+  pub enough : c ≤ n
+  pub early : c < n → (v i m : ℕ) → ¬ Loose h v i m

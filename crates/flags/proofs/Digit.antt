@@ -50,15 +50,14 @@ flag-zero k = ne-eqb (digit 0 k) 1 (λ e. omega (arith, e, digit-zero k))
 -- a word of 64 digits has no flag above them
 pub flag-lt : (w k : ℕ) → w < 2 ^ 64 → flag w k ≡ true → k < 64
 unfolding digit
-flag-lt w k h e = go (decLt k 64)
-  where
-    go : Dec (k < 64) → k < 64
-    go (yes l) = l
-    go (no l) =
-        let z : w / 2 ^ k ≡ 0 = div-eq-of-lt (lt-of-lt-of-le h (pow-mono {i = 64} {j = k} (omega (arith, l)))) in
-        let one : w / 2 ^ k % 2 ≡ 1 = flag-set w k e in
-        let o : 0 % 2 ≡ 1 = subst (λ (x : ℕ). x % 2 ≡ 1) z one in
-        omega (arith, o)
+flag-lt w k h e = elim (decLt k 64) [
+  | yes l ↦ l
+  | no l ↦
+      let z : w / 2 ^ k ≡ 0 = div-eq-of-lt (lt-of-lt-of-le h (pow-mono {i = 64} {j = k} (omega (arith, l)))) in
+      let one : w / 2 ^ k % 2 ≡ 1 = flag-set w k e in
+      let o : 0 % 2 ≡ 1 = subst (λ (x : ℕ). x % 2 ≡ 1) z one in
+      omega (arith, o)
+]
 
 pub digit-half : (n j : ℕ) → digit n (suc j) ≡ digit (n / 2) j
 unfolding digit

@@ -17,21 +17,15 @@ use Rattle.flags.proofs.Digit.{digit-lt, flag-clear, flag-zero, set-fla
 
 -- ---- `|` and `&`, digit by digit
 
-max-lt2 : (x y : ℕ) → x < 2 → y < 2 → max x y < 2
-max-lt2 x y p q = omega arith
-
-min-lt2 : (x y : ℕ) → x < 2 → min x y < 2
-min-lt2 x y p = omega arith
-
 or-odd : (a b : ℕ) → bitOr a b % 2 ≡ max (a % 2) (b % 2)
 or-odd a b =
     ap (λ (x : ℕ). x % 2) (or-step a b)
-    ∙ digits-mod (bitOr (a / 2) (b / 2)) (max-lt2 (a % 2) (b % 2) (mod-lt a (zero-lt-suc 1)) (mod-lt b (zero-lt-suc 1)))
+    ∙ digits-mod (bitOr (a / 2) (b / 2)) (omega (arith, mod-lt a (zero-lt-suc 1), mod-lt b (zero-lt-suc 1)))
 
 and-odd : (a b : ℕ) → bitAnd a b % 2 ≡ min (a % 2) (b % 2)
 and-odd a b =
     ap (λ (x : ℕ). x % 2) (and-step a b)
-    ∙ digits-mod (bitAnd (a / 2) (b / 2)) (min-lt2 (a % 2) (b % 2) (mod-lt a (zero-lt-suc 1)))
+    ∙ digits-mod (bitAnd (a / 2) (b / 2)) (omega (arith, mod-lt a (zero-lt-suc 1)))
 
 pub digit-or : (a b k : ℕ) → digit (bitOr a b) k ≡ max (digit a k) (digit b k)
 unfolding digit
@@ -64,13 +58,10 @@ unfolding digit
 one-above j k h = ap (λ (x : ℕ). x / 2 ^ j % 2) (one-mul (2 ^ k)) ∙ ap (λ (x : ℕ). x % 2) (div-eq-of-lt (pow-lt h))
 
 pub digit-one-other : (k j : ℕ) → (j ≡ k → ⊥) → digit (1 * 2 ^ k) j ≡ 0
-digit-one-other k j n = go (decLt k j)
-  where
-    go : Dec (k < j) → digit (1 * 2 ^ k) j ≡ 0
-    go (yes h) = one-above j k h
-    go (no h) =
-        let e : j + suc (k - suc j) ≡ k = omega (arith, h, n) in
-        ap (λ (x : ℕ). digit (1 * 2 ^ x) j) (sym e) ∙ one-below j (k - suc j)
+digit-one-other k j n = elim (decLt k j) [
+  | yes h ↦ one-above j k h
+  | no h ↦ let e : j + suc (k - suc j) ≡ k = omega (arith, h, n) in ap (λ (x : ℕ). digit (1 * 2 ^ x) j) (sym e) ∙ one-below j (k - suc j)
+]
 
 -- ---- a flag put in
 
@@ -121,18 +112,13 @@ put-lt w k h l = or-lt 64 w (1 * 2 ^ k) h (subst (λ (x : ℕ). x < 2 ^ 64) (sym
 
 -- a flag of `put w k`, by cases
 pub put-cases : (w k j : ℕ) → flag (put w k) j ≡ true → (j ≡ k) ⊎ (flag w j ≡ true)
-put-cases w k j e = go (ℕ-discrete j k)
-  where
-    go : Dec (j ≡ k) → (j ≡ k) ⊎ (flag w j ≡ true)
-    go (yes p) = inl p
-    go (no n) = inr (sym (put-other w k j n) ∙ e)
+put-cases w k j e = elim (ℕ-discrete j k) [ yes p ↦ inl p | no n ↦ inr (sym (put-other w k j n) ∙ e) ]
 
 pub put-keeps : (w k j : ℕ) → flag w j ≡ true → flag (put w k) j ≡ true
-put-keeps w k j e = go (ℕ-discrete j k)
-  where
-    go : Dec (j ≡ k) → flag (put w k) j ≡ true
-    go (yes p) = ap (λ (x : ℕ). flag (put w k) x) p ∙ put-same w k
-    go (no n) = put-other w k j n ∙ e
+put-keeps w k j e = elim (ℕ-discrete j k) [
+  | yes p ↦ ap (λ (x : ℕ). flag (put w k) x) p ∙ put-same w k
+  | no n ↦ put-other w k j n ∙ e
+]
 
 pub put-zero-count : (k : ℕ) → ones (put 0 k) ≡ 1
 unfolding ones

@@ -1,6 +1,6 @@
 -- A word is known by its flags; so a number that is put in and taken out again leaves the word as it was.
 -- Assumes nothing.
-use mathlib.Core.Bool.{Bool, true, false, true≢false}
+use mathlib.Core.Bool.{Bool, true, false, and-true}
 use mathlib.Core.Path.{_≡_, refl, sym, subst, _∙_}
 use Prim.Native.Nat.{ℕ, zero, suc, _+_, _*_, _/_, _%_, _^_, _<_}
 use native.Mathlib.Decide.{ℕ-discrete}
@@ -8,8 +8,8 @@ use native.Mathlib.Nat.{lt-of-lt-of-le, pow-suc}
 use native.Mathlib.Omega.{arith}
 use lib.Pow.{pow-pos, pow-mono}
 use Rattle.flags.specs.Flag.{digit, flag, put, less}
-use Rattle.flags.proofs.Digit.{unset, digit-half, digit-odd, flag-clear, flag-set, flag-zero}
-use Rattle.flags.proofs.Pair.{less-in, less-l, less-out}
+use Rattle.flags.proofs.Digit.{digit-half, digit-odd, flag-clear, flag-set, flag-zero}
+use Rattle.flags.proofs.Pair.{less-flag, less-out}
 use Rattle.flags.proofs.Put.{put-same, put-other}
 
 -- a number has as many digits as it says
@@ -28,7 +28,8 @@ same-digits (suc d) a b p q e =
 
 pub same-flags : (a b : ℕ) → ((k : ℕ) → flag a k ≡ flag b k) → a ≡ b
 same-flags a b e =
-    same-digits (a + b) a b (lt-of-lt-of-le (within a) (pow-mono {i = a} {j = a + b} (omega arith))) (lt-of-lt-of-le (within b) (pow-mono {i = b} {j = a + b} (omega arith)))
+    same-digits (a + b) a b (lt-of-lt-of-le (within a) (pow-mono {i = a} {j = a + b} (omega arith)))
+    (lt-of-lt-of-le (within b) (pow-mono {i = b} {j = a + b} (omega arith)))
     (λ k. by k (flag b k) refl)
   where
     by : (k : ℕ) (x : Bool) → flag b k ≡ x → digit a k ≡ digit b k
@@ -40,8 +41,4 @@ put-out w k e = same-flags (less (put w k) (put 0 k)) w (λ j. go j (ℕ-discret
   where
     go : (j : ℕ) → Dec (j ≡ k) → flag (less (put w k) (put 0 k)) j ≡ flag w j
     go j (yes z) = rw z (less-out (put w k) (put 0 k) k (put-same 0 k) ∙ sym e)
-    go j (no n) = by (flag w j) refl
-      where
-        by : (x : Bool) → flag w j ≡ x → flag (less (put w k) (put 0 k)) j ≡ flag w j
-        by true f = less-in (put w k) (put 0 k) j (put-other w k j n ∙ f) (put-other 0 k j n ∙ flag-zero j) ∙ sym f
-        by false f = unset (λ g. true≢false (sym (less-l (put w k) (put 0 k) j g) ∙ put-other w k j n ∙ f)) ∙ sym f
+    go j (no n) = rw (less-flag (put w k) (put 0 k) j, put-other w k j n, put-other 0 k j n, flag-zero j) (and-true (flag w j))

@@ -25,7 +25,8 @@ module _ {A : Type 0} where
   counted-below n l i h = omega (arith, length-take n l)
 
   -- past the array's end the default is read
-  pub counted-each : (P : A → Type 0) (d : A) → P d → (n : ℕ) (l : List A) → ((i : ℕ) → i < length (take n l) → P (getD (take n l) i d)) → (i : ℕ) → i < n → P (getD l i d)
+  pub counted-each : (P : A → Type 0) (d : A) → P d → (n : ℕ) (l : List A) → ((i : ℕ) → i < length (take n l) → P (getD (take n l) i d)) → (i : ℕ) → i < n
+      → P (getD l i d)
   counted-each P d p zero l f i h = absurd (not-suc-le-zero h)
   counted-each P d p (suc n) [] f i h = p
   counted-each P d p (suc n) (x ∷ l) f zero h = f zero (suc-le-suc zero-le)

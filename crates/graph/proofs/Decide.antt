@@ -38,7 +38,8 @@ risingb lo m (x ∷ xs) = leb lo x && (ltb x m && risingb (suc x) m xs)
 
 pub says-rising : (lo m : ℕ) (c : List ℕ) → Says (risingb lo m c) (Rising lo m c)
 says-rising lo m [] = says-yes tt
-says-rising lo m (x ∷ c) = says-iff (λ (p, (q, r)). (p, q, r)) (λ (p, q, r). (p, (q, r))) (says-and (says-le lo x) (says-and (says-lt x m) (says-rising (suc x) m c)))
+says-rising lo m (x ∷ c) =
+    says-iff (λ (p, (q, r)). (p, q, r)) (λ (p, q, r). (p, (q, r))) (says-and (says-le lo x) (says-and (says-lt x m) (says-rising (suc x) m c)))
 
 abbrev pub firstb : List ℕ → List ℕ → Bool
 firstb [] ys = true
@@ -72,7 +73,11 @@ module _ {good : List ℕ → Bool} {Good : List ℕ → Type 0} (says : (c : Li
       }
 
       back : Best (λ d. Rising 0 m d × Good d) weigh c → (Rising 0 m c × Good c) × T (everySet m 0 (betterb good weigh c))
-      back h = (h .among, everySet-back m 0 m (betterb good weigh c) (omega arith) (λ d rd. says-better c d .back (λ gd. (h .least d (rd, gd), h .first d (rd, gd)))))
+      back h = (
+        h .among,
+        everySet-back m 0 m (betterb good weigh c) (omega arith)
+            (λ d rd. says-better c d .back (λ gd. (h .least d (rd, gd), h .first d (rd, gd)))),
+      )
 
 pub says-cut : (g : Graph) (rules : List Rule) → Sound g → (orders : List Order) (c : List ℕ)
     → Says (bestb (separatesb g rules orders) (weight g) (length (g .edges)) c) (ChosenCut g rules orders c)
@@ -92,7 +97,8 @@ says-cut g rules sound orders c = says-iff
 -- the edges' ends are nodes and no pair stands twice
 abbrev pub soundb : Graph → Bool
 soundb g =
-    not (someBelow (length (g .edges)) (λ i. not (ltb ((edge g i) .from) (length (g .nodes)) && (ltb ((edge g i) .to) (length (g .nodes)) && leb 1 ((edge g i) .weight)))))
+    not (someBelow (length (g .edges)) (λ i. not (ltb ((edge g i) .from) (length (g .nodes)) &&
+    (ltb ((edge g i) .to) (length (g .nodes)) && leb 1 ((edge g i) .weight)))))
     && not (someBelow (length (g .edges)) (λ i. someBelow i (λ j. eqb ((edge g i) .from) ((edge g j) .from) && eqb ((edge g i) .to) ((edge g j) .to))))
 
 pub sound-so : (g : Graph) → T (soundb g) → Sound g
@@ -101,13 +107,18 @@ sound-so g t = record { ends = ends; pairs = λ i j hi hj f t₂. stable (says-e
     m : ℕ
     m = length (g .edges)
 
-    says-ends : (i : ℕ) → Says (ltb ((edge g i) .from) (length (g .nodes)) && (ltb ((edge g i) .to) (length (g .nodes)) && leb 1 ((edge g i) .weight))) (((edge g i) .from < length (g .nodes)) × ((edge g i) .to < length (g .nodes)) × (1 ≤ (edge g i) .weight))
+    says-ends : (i : ℕ)
+        → Says (ltb ((edge g i) .from) (length (g .nodes)) && (ltb ((edge g i) .to) (length (g .nodes)) && leb 1 ((edge g i) .weight)))
+        (((edge g i) .from < length (g .nodes)) × ((edge g i) .to < length (g .nodes)) × (1 ≤ (edge g i) .weight))
     says-ends i = says-iff (λ (p, (q, r)). (p, q, r)) (λ (p, q, r). (p, (q, r))) (says-and (says-lt _ _) (says-and (says-lt _ _) (says-le _ _)))
 
-    says-twin : (i j : ℕ) → Says (eqb ((edge g i) .from) ((edge g j) .from) && eqb ((edge g i) .to) ((edge g j) .to)) (((edge g i) .from ≡ (edge g j) .from) × ((edge g i) .to ≡ (edge g j) .to))
+    says-twin : (i j : ℕ)
+        → Says (eqb ((edge g i) .from) ((edge g j) .from) && eqb ((edge g i) .to) ((edge g j) .to))
+        (((edge g i) .from ≡ (edge g j) .from) × ((edge g i) .to ≡ (edge g j) .to))
     says-twin i j = says-and (says-eq _ _) (says-eq _ _)
 
-    halves : ((i : ℕ) × (i < m) × (((edge g i) .from < length (g .nodes)) × ((edge g i) .to < length (g .nodes)) × (1 ≤ (edge g i) .weight) → ⊥) → ⊥) × ((i : ℕ) × (i < m) × ((j : ℕ) × (j < i) × (((edge g i) .from ≡ (edge g j) .from) × ((edge g i) .to ≡ (edge g j) .to))) → ⊥)
+    halves : ((i : ℕ) × (i < m) × (((edge g i) .from < length (g .nodes)) × ((edge g i) .to < length (g .nodes)) × (1 ≤ (edge g i) .weight) → ⊥) → ⊥)
+        × ((i : ℕ) × (i < m) × ((j : ℕ) × (j < i) × (((edge g i) .from ≡ (edge g j) .from) × ((edge g i) .to ≡ (edge g j) .to))) → ⊥)
     halves = says-and (says-not (says-below m (λ i h. says-not (says-ends i)))) (says-not (says-below m (λ i h. says-below i (λ j k. says-twin i j)))) .so t
 
     ends : (i : ℕ) → i < m → ((edge g i) .from < length (g .nodes)) × ((edge g i) .to < length (g .nodes)) × (1 ≤ (edge g i) .weight)
@@ -136,5 +147,6 @@ module _ (g : Graph) (rules : List Rule) where
   pub asked-so : Sound g → (o : Order) (route : List ℕ) → T (askedb o route) → Asked g rules o route
   asked-so sound o [] t = is-held (says-held g rules sound [] (o .first) (o .second) .so t)
   asked-so sound o (x ∷ route) t =
-      let p = says-and (says-eqs (along (o .first) (dropLast route) (o .second)) (x ∷ route)) (says-shown sound (o .first) (dropLast route) (o .second)) .so t in
+      let p = says-and (says-eqs (along (o .first) (dropLast route) (o .second)) (x ∷ route)) (says-shown sound (o .first) (dropLast route) (o .second)) .so
+      t in
       subst (Asked g rules o) (p .0) (is-open (p .1))

@@ -1,90 +1,69 @@
--- There is a chosen cut: the search of `Search`, at the unordered routes of the asked orders.
+-- There is a chosen cut: each edge is tried in and out.
 -- Assumes nothing.
-use mathlib.Core.Bool.{Bool, _&&_}
-use mathlib.Core.List.{List, [], _∷_, List·Memᴰ, List·Memᴰ·head, List·Memᴰ·tail, List·Memᴰ·cases-cons, List·Memᴰ·not-nil}
-use mathlib.Core.Logic.{_⊎_, inl, inr, _≢_}
-use mathlib.Core.Path.{_≡_, refl, subst⁻¹}
-use Prim.Native.Nat.{ℕ, zero, suc, _+_, _<_, _≤_}
+use mathlib.Core.List.{List, [], _∷_}
+use mathlib.Core.Logic.{_⊎_, inl, inr, _≢_, ⊎-elim}
+use mathlib.Core.Path.{_≡_, refl, subst, subst⁻¹}
+use Prim.Native.Nat.{ℕ, zero, suc, _+_, _≤_}
 use native.Mathlib.Omega.{arith}
-use lib.Dec.{T}
 use lib.ListN.{length}
 use Rattle.graph.specs.declared.Order.{Order}
 use Rattle.graph.specs.declared.Rule.{Rule}
-use Rattle.graph.specs.Cut.{Rising, Best, Separates, weight, ChosenCut}
-use Rattle.graph.specs.Demands.{none}
-use Rattle.graph.specs.Graph.{Graph, Sound, edge}
-use Rattle.graph.specs.Held.{Each, Absent, Step, Follows, Route, Orders, HeldWithout}
-use Rattle.graph.proofs.Better.{Outcome, best-iff}
-use Rattle.graph.proofs.Decide.{heldb, says-held}
-use Rattle.graph.proofs.Lists.{everyPlace, everyList}
-use Rattle.graph.proofs.Route.{says-route, routeb}
-use Rattle.graph.proofs.Ordered.{ordersb, says-orders}
-use Rattle.graph.proofs.Says.{Says, says-T, says-implies, implies, decide, stable, and}
-use Rattle.graph.proofs.Search.{Next, search}
-use Rattle.graph.proofs.Sets.{sub-weight}
+use Rattle.graph.specs.Cut.{ChosenCut, Cut, First, Rising, Separates, weight}
+use Rattle.graph.specs.Graph.{Graph, Sound}
+use Rattle.graph.specs.Held.{Absent, Follows, Step}
+use Rattle.graph.proofs.Better.{Outcome, outcome-iff, outcome-or}
+use Rattle.graph.proofs.Decide.{says-separates}
+use Rattle.graph.proofs.Says.{decide, says-eq}
 
-sure : (b : Bool) → T b ⊎ (T b → ⊥)
-sure b = decide (says-T b)
+-- the best of the good sets of numbers from lo on
+module _ (m : ℕ) where
+  best-of : (weigh : List ℕ → ℕ) (Good : List ℕ → Type 0) → ((t : List ℕ) → Good t ⊎ (Good t → ⊥)) → (k lo : ℕ) → m ≡ lo + k
+      → Outcome weigh (λ t. Rising lo m t × Good t)
+  best-of weigh Good test zero lo e = go (test [])
+    where
+      none : (t : List ℕ) → Rising lo m t → [] ≡ t
+      none [] r = refl
+      none (x ∷ t) r = absurd (let z : ⊥ = omega (arith, r .0, r .1) in z)
 
--- a test that fails somewhere fails at a list that can be named
-place-find : (x : ℕ) (l : List ℕ) (f : List ℕ → Bool) → T (everyPlace x l f) ⊎ ((r : List ℕ) × (T (f r) → ⊥))
-place-find x [] f = go (sure (f (x ∷ [])))
-  where
-    go : T (f (x ∷ [])) ⊎ (T (f (x ∷ [])) → ⊥) → T (f (x ∷ [])) ⊎ ((r : List ℕ) × (T (f r) → ⊥))
-    go (inl t) = inl t
-    go (inr n) = inr (x ∷ [], n)
-place-find x (y ∷ l) f = go (sure (f (x ∷ y ∷ l))) (place-find x l (λ r. f (y ∷ r)))
-  where
-    go : T (f (x ∷ y ∷ l)) ⊎ (T (f (x ∷ y ∷ l)) → ⊥) → T (everyPlace x l (λ r. f (y ∷ r))) ⊎ ((r : List ℕ) × (T (f (y ∷ r)) → ⊥)) → T (everyPlace x (y ∷ l) f) ⊎ ((r : List ℕ) × (T (f r) → ⊥))
-    go (inl t) (inl u) = inl (and (f (x ∷ y ∷ l)) (everyPlace x l (λ r. f (y ∷ r))) t u)
-    go (inl t) (inr (r, n)) = inr (y ∷ r, n)
-    go (inr n) u = inr (x ∷ y ∷ l, n)
+      go : Good [] ⊎ (Good [] → ⊥) → Outcome weigh (λ t. Rising lo m t × Good t)
+      go (inl g) =
+          inl ([], record { among = (tt, g); least = λ d p. subst (λ (t : List ℕ). weigh [] ≤ weigh t) (none d (p .0)) (omega arith); first = λ d p q. tt })
+      go (inr n) = inr (λ t p. n (subst⁻¹ Good (none t (p .0)) (p .1)))
+  best-of weigh Good test (suc k) lo e =
+      outcome-iff weigh to back (outcome-or weigh
+      (best-of weigh Good test k (suc lo) (omega arith))
+      (led (best-of (λ t. weigh (lo ∷ t)) (λ t. Good (lo ∷ t)) (λ t. test (lo ∷ t)) k (suc lo) (omega arith))))
+    where
+      Led : List ℕ → Type 0
+      Led [] = ⊥
+      Led (x ∷ t) = (lo ≡ x) × (Rising (suc lo) m t × Good (lo ∷ t))
 
-list-find : (n : ℕ) (f : List ℕ → Bool) → T (everyList n f) ⊎ ((r : List ℕ) × (T (f r) → ⊥))
-list-find zero f = go (sure (f []))
-  where
-    go : T (f []) ⊎ (T (f []) → ⊥) → T (f []) ⊎ ((r : List ℕ) × (T (f r) → ⊥))
-    go (inl t) = inl t
-    go (inr n) = inr ([], n)
-list-find (suc n) f = go (list-find n (λ l. f l && everyPlace n l f))
-  where
-    which : (l : List ℕ) → (T (f l && everyPlace n l f) → ⊥) → T (f l) ⊎ (T (f l) → ⊥) → T (everyPlace n l f) ⊎ ((r : List ℕ) × (T (f r) → ⊥)) → (r : List ℕ) × (T (f r) → ⊥)
-    which l k (inl t) (inl u) = absurd (k (and (f l) (everyPlace n l f) t u))
-    which l k (inl t) (inr r) = r
-    which l k (inr t) u = (l, t)
+      led : Outcome (λ t. weigh (lo ∷ t)) (λ t. Rising (suc lo) m t × Good (lo ∷ t)) → Outcome weigh Led
+      led (inl (c, b)) = inl (lo ∷ c, record { among = (refl, b .among); least = λ d p. all d p .0; first = λ d p. all d p .1 })
+        where
+          all : (d : List ℕ) → Led d → (weigh (lo ∷ c) ≤ weigh d) × (weigh (lo ∷ c) ≡ weigh d → First (lo ∷ c) d)
+          all [] p = absurd p
+          all (x ∷ d) (q, p) =
+              subst (λ (y : ℕ). (weigh (lo ∷ c) ≤ weigh (y ∷ d)) × (weigh (lo ∷ c) ≡ weigh (y ∷ d) → First (lo ∷ c) (y ∷ d))) q
+              (b .least d p, λ s. inr (refl, b .first d p s))
+      led (inr n) = inr none
+        where
+          none : (c : List ℕ) → Led c → ⊥
+          none [] p = p
+          none (x ∷ c) p = n c (p .1)
 
-    go : T (everyList n (λ l. f l && everyPlace n l f)) ⊎ ((l : List ℕ) × (T (f l && everyPlace n l f) → ⊥)) → T (everyList (suc n) f) ⊎ ((r : List ℕ) × (T (f r) → ⊥))
-    go (inl t) = inl t
-    go (inr (l, k)) = inr (which l k (sure (f l)) (place-find n l f))
+      to : (t : List ℕ) → (Rising (suc lo) m t × Good t) ⊎ Led t → Rising lo m t × Good t
+      to [] (inl (r, g)) = (tt, g)
+      to (x ∷ t) (inl (r, g)) = ((omega (arith, r .0), r .1, r .2), g)
+      to [] (inr p) = absurd p
+      to (x ∷ t) (inr (q, (r, g))) = subst (λ (y : ℕ). Rising lo m (y ∷ t) × Good (y ∷ t)) q ((omega arith, omega arith, r), g)
 
--- all routes on none of c order their ends, or there is one that doesn't
-unordered-find : (g : Graph) (rules : List Rule) → Sound g → (c : List ℕ) (a b : ℕ) → HeldWithout g rules c a b ⊎ ((between : List ℕ) × Route g c a between b × ¬ Orders g rules a between b)
-unordered-find g rules sound c a b = go (list-find (length (g .nodes)) (λ between. implies (routeb g c a between b) (ordersb g rules a between b)))
-  where
-    says : (l : List ℕ) → Says (implies (routeb g c a l b) (ordersb g rules a l b)) (Route g c a l b → Orders g rules a l b)
-    says l = says-implies (says-route g c a l b) (says-orders g rules a l b)
+      back : (t : List ℕ) → Rising lo m t × Good t → (Rising (suc lo) m t × Good t) ⊎ Led t
+      back [] (r, g) = inl (tt, g)
+      back (x ∷ t) (r, g) =
+          ⊎-elim (λ q. inr (q, (rw q (r .2), rw q g))) (λ (d : lo ≢ x). inl ((omega (arith, r .0), r .1, r .2), g)) (decide (says-eq lo x))
 
-    go : T (heldb g rules c a b) ⊎ ((l : List ℕ) × (T (implies (routeb g c a l b) (ordersb g rules a l b)) → ⊥)) → HeldWithout g rules c a b ⊎ ((between : List ℕ) × Route g c a between b × ¬ Orders g rules a between b)
-    go (inl t) = inl (says-held g rules sound c a b .so t)
-    go (inr (l, n)) = inr (l, stable (says-route g c a l b) (λ k. n (says l .back (λ r. absurd (k r)))), λ o. n (says l .back (λ r. o)))
-
--- the edges that a route goes by
-module _ (g : Graph) (c : List ℕ) where
-  by : (a : ℕ) (between : List ℕ) (b : ℕ) → Follows (Step g c) a between b → List ℕ
-  by a [] b s = s .0 ∷ []
-  by a (x ∷ between) b s = s .0 .0 ∷ by x between b (s .1)
-
-  by-ok : (a : ℕ) (between : List ℕ) (b : ℕ) (s : Follows (Step g c) a between b) → Each (λ e. (e < length (g .edges)) × Absent e c) (by a between b s)
-  unfolding by
-  by-ok a [] b (i, h, o, f, t) = ((h, o), tt)
-  by-ok a (x ∷ between) b ((i, h, o, f, t), s) = ((h, o), by-ok x between b s)
-
-  -- a set that has none of them leaves the route
-  by-left : (d : List ℕ) (a : ℕ) (between : List ℕ) (b : ℕ) (s : Follows (Step g c) a between b) → Each (λ e. Absent e d) (by a between b s) → Follows (Step g d) a between b
-  unfolding by
-  by-left d a [] b (i, h, o, f, t) k = (i, h, k .0, f, t)
-  by-left d a (x ∷ between) b ((i, h, o, f, t), s) k = ((i, h, k .0, f, t), by-left d x between b s (k .1))
-
+-- all numbers from lo on, k of them
 upto : ℕ → ℕ → List ℕ
 upto zero lo = []
 upto (suc k) lo = lo ∷ upto k (suc lo)
@@ -99,63 +78,23 @@ unfolding upto
 upto-all zero lo z a l = omega arith
 upto-all (suc k) lo z a l = let d : z ≢ lo = a .0 in omega (arith, upto-all k (suc lo) z (a .1) (omega arith))
 
-rising-high : (lo m : ℕ) (t : List ℕ) (z : ℕ) → Rising lo m t → m ≤ z → Absent z t
-rising-high lo m [] z r l = tt
-rising-high lo m (x ∷ t) z r l = let r1 = r .1 in ((λ e. omega arith), rising-high (suc x) m t z (r .2) l)
+-- there is a chosen cut
+pub cut-exists : (g : Graph) (rules : List Rule) → Sound g → (orders : List Order) → (c : List ℕ) × ChosenCut g rules orders c
+cut-exists g rules sound orders = go (outcome-iff (weight g) (λ t p. record { rising = p .0; separates = p .1 }) (λ t k. (k .rising, k .separates))
+    (best-of (length (g .edges)) (weight g) (Separates g rules orders) (λ t. decide (says-separates g rules sound orders t)) (length (g .edges)) 0
+    (omega arith)))
+  where
+    full : List ℕ
+    full = upto (length (g .edges)) 0
 
-module _ (g : Graph) (rules : List Rule) (sound : Sound g) where
-  abbrev Unmet : List Order → List ℕ → Type 0
-  Unmet orders c = (o : Order) × List·Memᴰ o orders × ((between : List ℕ) × Route g c (o .first) between (o .second) × ¬ Orders g rules (o .first) between (o .second))
+    -- without any edge there is no route
+    nowhere : (a b : ℕ) (between : List ℕ) → Follows (Step g full) a between b → ⊥
+    nowhere a b [] (i, h, out, f, t) = omega (arith, upto-all (length (g .edges)) 0 i out (omega arith))
+    nowhere a b (x ∷ between) ((i, h, out, f, t), s) = omega (arith, upto-all (length (g .edges)) 0 i out (omega arith))
 
-  unmet : (orders : List Order) (c : List ℕ) → Separates g rules orders c ⊎ Unmet orders c
-  unmet [] c = inl (λ o m. absurd (List·Memᴰ·not-nil m))
-  unmet (o ∷ orders) c = go (unordered-find g rules sound c (o .first) (o .second)) (unmet orders c)
-    where
-      here : HeldWithout g rules c (o .first) (o .second) → Separates g rules orders c → (p : Order) → (p ≡ o) ⊎ List·Memᴰ p orders → HeldWithout g rules c (p .first) (p .second)
-      here k rest p (inl e) = subst⁻¹ (λ (q : Order). HeldWithout g rules c (q .first) (q .second)) e k
-      here k rest p (inr m) = rest p m
-
-      go : HeldWithout g rules c (o .first) (o .second) ⊎ ((between : List ℕ) × Route g c (o .first) between (o .second) × ¬ Orders g rules (o .first) between (o .second)) → Separates g rules orders c ⊎ Unmet orders c → Separates g rules (o ∷ orders) c ⊎ Unmet (o ∷ orders) c
-      go x (inr (p, m, r)) = inr (p, List·Memᴰ·tail m, r)
-      go (inl x) (inl s) = inl (λ p m. here x s p (List·Memᴰ·cases-cons m))
-      go (inr x) (inl s) = inr (o, List·Memᴰ·head refl, x)
-
-  positive : (i : ℕ) → i < length (g .edges) → 1 ≤ (edge g i) .weight
-  positive i h = sound .ends i h .2
-
-  next : (orders : List Order) (s : List ℕ) → Rising 0 (length (g .edges)) s → Next (λ i. (edge g i) .weight) (length (g .edges)) positive (Separates g rules orders) s
-  next orders s rs = go (unmet orders s)
-    where
-      go : Separates g rules orders s ⊎ Unmet orders s → Next (λ i. (edge g i) .weight) (length (g .edges)) positive (Separates g rules orders) s
-      go (inl k) = inl k
-      go (inr (o, mem, (between, r, unordered))) =
-          inr (
-            by g s (o .first) between (o .second) (r .follows),
-            by-ok g s (o .first) between (o .second) (r .follows),
-            λ t rt sep sub none. unordered (sep o mem between record { follows = by-left g s t (o .first) between (o .second) (r .follows) none; once = r .once }),
-          )
-
-  cut-of : {orders : List Order} {c : List ℕ} → Best (λ t. Rising 0 (length (g .edges)) t × Separates g rules orders t) (weight g) c → ChosenCut g rules orders c
-  cut-of b = best-iff (weight g) (λ t p. record { rising = p .0; separates = p .1 }) (λ t k. (k .rising, k .separates)) b
-
-  -- there is a chosen cut
-  pub cut-exists : (orders : List Order) → (c : List ℕ) × ChosenCut g rules orders c
-  cut-exists orders = go (search (λ i. (edge g i) .weight) (length (g .edges)) positive (Separates g rules orders) (next orders) (weight g full) most)
-    where
-      full : List ℕ
-      full = upto (length (g .edges)) 0
-
-      rising : Rising 0 (length (g .edges)) full
-      rising = rising-upto (length (g .edges)) 0 (length (g .edges)) (omega arith)
-
-      most : (t : List ℕ) → Rising 0 (length (g .edges)) t → weight g t ≤ weight g full
-      most t r = sub-weight (λ i. (edge g i) .weight) (length (g .edges)) positive 0 t full r rising
-          (λ z a. rising-high 0 (length (g .edges)) t z r (omega (arith, upto-all (length (g .edges)) 0 z a (omega arith)))) .0
-
-      nowhere : (a b : ℕ) (between : List ℕ) → Follows (Step g full) a between b → ⊥
-      nowhere a b [] (i, h, out, f, t) = omega (arith, upto-all (length (g .edges)) 0 i out (omega arith))
-      nowhere a b (x ∷ between) ((i, h, out, f, t), s) = omega (arith, upto-all (length (g .edges)) 0 i out (omega arith))
-
-      go : Outcome (weight g) (λ t. Rising 0 (length (g .edges)) t × Separates g rules orders t) → (c : List ℕ) × ChosenCut g rules orders c
-      go (inl (c, b)) = (c, cut-of b)
-      go (inr n) = absurd (n full (rising, λ o mem between r. absurd (nowhere (o .first) (o .second) between (r .follows))))
+    go : Outcome (weight g) (Cut g rules orders) → (c : List ℕ) × ChosenCut g rules orders c
+    go (inl best) = best
+    go (inr n) = absurd (n full record {
+      rising = rising-upto (length (g .edges)) 0 (length (g .edges)) (omega arith);
+      separates = λ o m between r. absurd (nowhere (o .first) (o .second) between (r .follows));
+    })

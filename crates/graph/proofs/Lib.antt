@@ -10,8 +10,6 @@ pub mod Walked
 pub mod Decide
 pub mod Unique
 pub mod Better
-pub mod Sets
-pub mod Search
 pub mod Exists
 pub mod Written
 pub mod Strip
@@ -21,5 +19,4 @@ pub mod Members
 pub mod Value
 pub mod Counted
 pub mod Scan
-pub mod Demands
 pub mod Samples

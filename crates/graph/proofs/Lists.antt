@@ -21,14 +21,10 @@ everySet-so zero lo m f e t [] r = t
 everySet-so zero lo m f e t (x ∷ d) r = absurd (let z : ⊥ = omega arith in z)
 everySet-so (suc k) lo m f e t [] r = everySet-so k (suc lo) m f (omega arith) (both (everySet k (suc lo) f) (everySet k (suc lo) (λ l. f (lo ∷ l))) t .0) [] tt
 everySet-so (suc k) lo m f e t (x ∷ d) r =
-    go (λ h. everySet-so k (suc lo) m (λ l. f (lo ∷ l)) (omega arith) (t2 .1) d h) (λ h. everySet-so k (suc lo) m f (omega arith) (t2 .0) (x ∷ d) h) (decide (says-eq x lo))
-  where
-    t2 : T (everySet k (suc lo) f) × T (everySet k (suc lo) (λ l. f (lo ∷ l)))
-    t2 = both (everySet k (suc lo) f) (everySet k (suc lo) (λ l. f (lo ∷ l))) t
-
-    go : (Rising (suc lo) m d → T (f (lo ∷ d))) → (Rising (suc lo) m (x ∷ d) → T (f (x ∷ d))) → (x ≡ lo) ⊎ (x ≢ lo) → T (f (x ∷ d))
-    go p q (inl s) = subst (λ (y : ℕ). T (f (y ∷ d))) (sym s) (p (subst (λ (y : ℕ). Rising (suc y) m d) s (r .2)))
-    go p q (inr n) = let lo≤ = r .0 in q (omega arith, r .1, r .2)
+    let t2 = both (everySet k (suc lo) f) (everySet k (suc lo) (λ l. f (lo ∷ l))) t in elim (decide (says-eq x lo)) [
+      | inl s ↦ rw s (everySet-so k (suc lo) m (λ l. f (lo ∷ l)) (omega arith) (t2 .1) d (rw s at (r .2)))
+      | inr n ↦ everySet-so k (suc lo) m f (omega arith) (t2 .0) (x ∷ d) (omega (arith, r .0), r .1, r .2)
+    ]
 
 pub rising-later : (lo m : ℕ) (d : List ℕ) → Rising (suc lo) m d → Rising lo m d
 rising-later lo m [] r = tt
@@ -48,7 +44,8 @@ everyPlace x (y ∷ l) f = f (x ∷ y ∷ l) && everyPlace x l (λ r. f (y ∷ r
 everyPlace-so : (x : ℕ) (before after : List ℕ) (f : List ℕ → Bool) → T (everyPlace x (before ++ after) f) → T (f (before ++ x ∷ after))
 everyPlace-so x [] [] f t = t
 everyPlace-so x [] (y ∷ after) f t = both (f (x ∷ y ∷ after)) (everyPlace x after (λ r. f (y ∷ r))) t .0
-everyPlace-so x (y ∷ before) after f t = everyPlace-so x before after (λ r. f (y ∷ r)) (both (f (x ∷ y ∷ before ++ after)) (everyPlace x (before ++ after) (λ r. f (y ∷ r))) t .1)
+everyPlace-so x (y ∷ before) after f t =
+    everyPlace-so x before after (λ r. f (y ∷ r)) (both (f (x ∷ y ∷ before ++ after)) (everyPlace x (before ++ after) (λ r. f (y ∷ r))) t .1)
 
 everyPlace-back : (x : ℕ) (l : List ℕ) (f : List ℕ → Bool) → ((d : List ℕ) → T (f d)) → T (everyPlace x l f)
 everyPlace-back x [] f h = h (x ∷ [])
@@ -62,12 +59,10 @@ everyList (suc n) f = everyList n (λ l. f l && everyPlace n l f)
 -- x is among them, or it is none of them
 pub split : (n : ℕ) (xs : List ℕ) → ((before : List ℕ) × (after : List ℕ) × (xs ≡ before ++ n ∷ after)) ⊎ Absent n xs
 split n [] = inr tt
-split n (x ∷ xs) = go (decide (says-eq n x)) (split n xs)
-  where
-    go : (n ≡ x) ⊎ (n ≢ x) → ((before : List ℕ) × (after : List ℕ) × (xs ≡ before ++ n ∷ after)) ⊎ Absent n xs → ((before : List ℕ) × (after : List ℕ) × (x ∷ xs ≡ before ++ n ∷ after)) ⊎ Absent n (x ∷ xs)
-    go (inl e) r = inl ([], xs, (cc))
-    go (inr d) (inl r) = let e : xs ≡ r .0 ++ n ∷ r .1 = r .2 in inl (x ∷ r .0, r .1, (cc))
-    go (inr d) (inr r) = inr (d, r)
+split n (x ∷ xs) = elim (decide (says-eq n x)) [
+  | inl e ↦ inl ([], xs, (cc))
+  | inr d ↦ elim (split n xs) [ inl (before, after, e) ↦ inl (x ∷ before, after, (cc)) | inr r ↦ inr (d, r) ]
+]
 
 -- the middle taken out
 each-out : (P : ℕ → Type 0) (before : List ℕ) (x : ℕ) (after : List ℕ) → Each P (before ++ x ∷ after) → P x × Each P (before ++ after)
@@ -90,19 +85,21 @@ noneTwice-out (y ∷ before) x after p =
     ((λ e. q .0 (sym e), r .0), (q .1, r .1))
 
 below-less : (n : ℕ) (xs : List ℕ) → Within (suc n) xs → Absent n xs → Within n xs
-below-less n xs w a = each-map (λ x. (x < suc n) × (n ≢ x)) (λ x. x < n) xs (λ x p. let p0 = p .0 in let p1 : n ≢ x = p .1 in omega arith) (each-both (λ x. x < suc n) (λ x. n ≢ x) xs w a)
+below-less n xs w a =
+    each-map (λ x. (x < suc n) × (n ≢ x)) (λ x. x < n) xs (λ x p. let p0 = p .0 in let p1 : n ≢ x = p .1 in omega arith)
+    (each-both (λ x. x < suc n) (λ x. n ≢ x) xs w a)
 
 pub everyList-so : (n : ℕ) (f : List ℕ → Bool) → T (everyList n f) → (l : List ℕ) → Within n l → NoneTwice l → T (f l)
 everyList-so zero f t [] w o = t
 everyList-so zero f t (x ∷ l) w o = let w0 = w .0 in absurd (let z : ⊥ = omega arith in z)
-everyList-so (suc n) f t l w o = go (everyList-so n (λ r. f r && everyPlace n r f) t) (split n l)
-  where
-    go : ((r : List ℕ) → Within n r → NoneTwice r → T (f r && everyPlace n r f)) → ((before : List ℕ) × (after : List ℕ) × (l ≡ before ++ n ∷ after)) ⊎ Absent n l → T (f l)
-    go ih (inr a) = both (f l) (everyPlace n l f) (ih l (below-less n l w a) o) .0
-    go ih (inl (before, after, e)) =
-        let o′ = noneTwice-out before n after (subst NoneTwice e o) in
-        let w′ = each-out (λ x. x < suc n) before n after (subst (Within (suc n)) e w) in
-        subst (λ (r : List ℕ). T (f r)) (sym e) (everyPlace-so n before after f (both (f (before ++ after)) (everyPlace n (before ++ after) f) (ih (before ++ after) (below-less n (before ++ after) (w′ .1) (o′ .0)) (o′ .1)) .1))
+everyList-so (suc n) f t l w o = elim (split n l) [
+  | inl (before, after, e) ↦
+      let o′ = noneTwice-out before n after (subst NoneTwice e o) in
+      let w′ = each-out (λ x. x < suc n) before n after (subst (Within (suc n)) e w) in
+      rw e (everyPlace-so n before after f (both (f (before ++ after)) (everyPlace n (before ++ after) f)
+      (everyList-so n (λ r. f r && everyPlace n r f) t (before ++ after) (below-less n (before ++ after) (w′ .1) (o′ .0)) (o′ .1)) .1))
+  | inr a ↦ both (f l) (everyPlace n l f) (everyList-so n (λ r. f r && everyPlace n r f) t l (below-less n l w a) o) .0
+]
 
 pub everyList-back : (n : ℕ) (f : List ℕ → Bool) → ((l : List ℕ) → T (f l)) → T (everyList n f)
 everyList-back zero f h = h []

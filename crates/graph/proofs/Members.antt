@@ -1,7 +1,7 @@
 -- What is in a list stands at a place of it.
 -- Assumes nothing.
 use mathlib.Core.List.{List, [], _∷_, List·Memᴰ, List·Memᴰ·head, List·Memᴰ·tail, List·Memᴰ·not-nil, List·Memᴰ·cases-cons}
-use mathlib.Core.Logic.{_⊎_, inl, inr}
+use mathlib.Core.Logic.{⊎-elim}
 use mathlib.Core.Path.{_≡_, refl}
 use Prim.Native.Nat.{ℕ, zero, suc, _<_}
 use native.Mathlib.Omega.{arith}
@@ -15,8 +15,5 @@ module _ {A : Type 0} (d : A) where
 
   pub mem-at : (l : List A) {x : A} → List·Memᴰ x l → (i : ℕ) × (i < length l) × (x ≡ getD l i d)
   mem-at [] m = absurd (List·Memᴰ·not-nil m)
-  mem-at (y ∷ l) {x} m = go (List·Memᴰ·cases-cons m) (λ k. mem-at l k)
-    where
-      go : (x ≡ y) ⊎ List·Memᴰ x l → (List·Memᴰ x l → (i : ℕ) × (i < length l) × (x ≡ getD l i d)) → (i : ℕ) × (i < suc (length l)) × (x ≡ getD (y ∷ l) i d)
-      go (inl e) rest = (0, omega arith, e)
-      go (inr k) rest = let r = rest k in (suc (r .0), omega (arith, r .1), r .2)
+  mem-at (y ∷ l) m =
+      ⊎-elim (λ e. (0, omega arith, e)) (λ k. let r = mem-at l k in (suc (r .0), omega (arith, r .1), r .2)) (List·Memᴰ·cases-cons m)

@@ -2,13 +2,13 @@
 -- Assumes nothing.
 use mathlib.Core.Bool.{Bool, _&&_, _||_}
 use mathlib.Core.List.{List, [], _∷_, _++_, append-assoc}
-use mathlib.Core.Logic.{_⊎_, inl, inr}
-use mathlib.Core.Path.{_≡_, refl, sym, ap, _∙_, subst⁻¹}
+use mathlib.Core.Logic.{_⊎_, inl, inr, ⊎-elim}
+use mathlib.Core.Path.{_≡_, refl, ap, subst⁻¹}
 use Prim.Native.Nat.{ℕ}
 use lib.Dec.{T}
 use Rattle.graph.specs.declared.Label.{Label}
 use Rattle.graph.specs.declared.Rule.{Rule}
-use Rattle.graph.specs.Fit.{ruledb}
+use Rattle.graph.specs.Tests.{ruledb}
 use Rattle.graph.specs.Graph.{Graph, label}
 use Rattle.graph.specs.Held.{Linked, Ordered, by-rule, by-way, Orders}
 use Rattle.graph.proofs.Ruled.{says-ruled}
@@ -28,11 +28,8 @@ module _ {fitb : ℕ → ℕ → Bool} {Fit : ℕ → ℕ → Type 0} (says : (p
   chain-so : (p : ℕ) (xs : List ℕ) (q : ℕ) → T (chainb fitb p xs q) → Ordered Fit p xs q
   chain-so p [] q t = by-rule (says p q .so t)
   chain-so p (x ∷ xs) q t =
-      go (λ s. chain-so p xs q s) (λ s. chain-so x xs q s) (says-or (says-T (chainb fitb p xs q)) (says-and (says p x) (says-T (chainb fitb x xs q))) .so t)
-    where
-      go : (T (chainb fitb p xs q) → Ordered Fit p xs q) → (T (chainb fitb x xs q) → Ordered Fit x xs q) → T (chainb fitb p xs q) ⊎ (Fit p x × T (chainb fitb x xs q)) → Ordered Fit p (x ∷ xs) q
-      go f g (inl s) = wider x (f s)
-      go f g (inr (fit, s)) = by-way x [] xs refl (by-rule fit) (g s)
+      ⊎-elim (λ s. wider x (chain-so p xs q s)) (λ (fit, s). by-way x [] xs refl (by-rule fit) (chain-so x xs q s))
+      (says-or (says-T (chainb fitb p xs q)) (says-and (says p x) (says-T (chainb fitb x xs q))) .so t)
 
   -- a test that passes on a shorter list passes on a longer
   chain-wider : (p : ℕ) (x : ℕ) (xs : List ℕ) (q : ℕ) → T (chainb fitb p xs q) → T (chainb fitb p (x ∷ xs) q)
@@ -42,16 +39,15 @@ module _ {fitb : ℕ → ℕ → Bool} {Fit : ℕ → ℕ → Type 0} (says : (p
   chain-rule p [] q f = says p q .back f
   chain-rule p (x ∷ xs) q f = chain-wider p x xs q (chain-rule p xs q f)
 
-  chain-join : (p : ℕ) (before : List ℕ) (k : ℕ) (after : List ℕ) (q : ℕ) → T (chainb fitb p before k) → T (chainb fitb k after q) → T (chainb fitb p (before ++ k ∷ after) q)
-  chain-join p [] k after q s t = says-or (says-T (chainb fitb p after q)) (says-and (says p k) (says-T (chainb fitb k after q))) .back (inr (says p k .so s, t))
+  chain-join : (p : ℕ) (before : List ℕ) (k : ℕ) (after : List ℕ) (q : ℕ) → T (chainb fitb p before k) → T (chainb fitb k after q)
+      → T (chainb fitb p (before ++ k ∷ after) q)
+  chain-join p [] k after q s t =
+      says-or (says-T (chainb fitb p after q)) (says-and (says p k) (says-T (chainb fitb k after q))) .back (inr (says p k .so s, t))
   chain-join p (x ∷ before) k after q s t =
-      go (λ u. chain-join p before k after q u t) (λ u. chain-join x before k after q u t)
+      let l = before ++ k ∷ after in
+      ⊎-elim (λ u. chain-wider p x l q (chain-join p before k after q u t))
+      (λ (fit, u). says-or (says-T (chainb fitb p l q)) (says-and (says p x) (says-T (chainb fitb x l q))) .back (inr (fit, chain-join x before k after q u t)))
       (says-or (says-T (chainb fitb p before k)) (says-and (says p x) (says-T (chainb fitb x before k))) .so s)
-    where
-      go : (T (chainb fitb p before k) → T (chainb fitb p (before ++ k ∷ after) q)) → (T (chainb fitb x before k) → T (chainb fitb x (before ++ k ∷ after) q))
-          → T (chainb fitb p before k) ⊎ (Fit p x × T (chainb fitb x before k)) → T (chainb fitb p (x ∷ before ++ k ∷ after) q)
-      go f g (inl u) = chain-wider p x (before ++ k ∷ after) q (f u)
-      go f g (inr (fit, u)) = says-or (says-T (chainb fitb p (before ++ k ∷ after) q)) (says-and (says p x) (says-T (chainb fitb x (before ++ k ∷ after) q))) .back (inr (fit, g u))
 
   chain-back : {p : ℕ} {xs : List ℕ} {q : ℕ} → Ordered Fit p xs q → T (chainb fitb p xs q)
   chain-back {p} {xs} {q} (by-rule f) = chain-rule p xs q f
@@ -82,9 +78,6 @@ module _ (Fit : ℕ → ℕ → Type 0) where
 
   pub last-link : {p : ℕ} {between : List ℕ} {q : ℕ} → Ordered Fit p between q → LastLink p between q
   last-link (by-rule f) = inl f
-  last-link {p} {between} {q} (by-way k before after e o₁ o₂) = go (last-link o₂)
-    where
-      go : LastLink k after q → LastLink p between q
-      go (inl f) = inr (before, k, after, e, o₁, f)
-      go (inr (b′, k′, a′, e′, o, f)) =
-          inr (before ++ k ∷ b′, k′, a′, e ∙ ap (λ (l : List ℕ). before ++ k ∷ l) e′ ∙ sym (append-assoc before (k ∷ b′) (k′ ∷ a′)), by-way k before b′ refl o₁ o, f)
+  last-link (by-way k before after e o₁ o₂) =
+      ⊎-elim (λ f. inr (before, k, after, e, o₁, f))
+      (λ (b′, k′, a′, e′, o, f). inr (before ++ k ∷ b′, k′, a′, rw (e, e′, append-assoc) refl, by-way k before b′ refl o₁ o, f)) (last-link o₂)

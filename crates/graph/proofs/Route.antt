@@ -2,23 +2,15 @@
 -- Assumes nothing.
 use mathlib.Core.Bool.{Bool, _&&_}
 use mathlib.Core.List.{List, [], _∷_, _++_}
-use mathlib.Core.Logic.{_≢_}
 use mathlib.Core.Path.{subst}
 use Prim.Native.Nat.{ℕ, _<_}
 use lib.Dec.{eqb}
 use lib.ListN.{length}
 use Rattle.graph.specs.Graph.{Graph, Sound, edge}
-use Rattle.graph.specs.Held.{Each, Within, NoneTwice, Step, Follows, Route}
+use Rattle.graph.specs.Held.{Within, Step, Follows, Route}
 use Rattle.graph.proofs.Lists.{everyList, everyList-so, everyList-back}
 use Rattle.graph.proofs.Says.{Says, says-and, implies, says-implies, says-iff, says-eq, says-absent, absentb, noneTwiceb, says-noneTwice, someBelow, says-below}
-
-each-front : (P : ℕ → Type 0) (xs : List ℕ) (b : ℕ) → Each P (xs ++ (b ∷ [])) → Each P xs
-each-front P [] b p = tt
-each-front P (x ∷ xs) b p = (p .0, each-front P xs b (p .1))
-
-once-front : (xs : List ℕ) (b : ℕ) → NoneTwice (xs ++ (b ∷ [])) → NoneTwice xs
-once-front [] b o = tt
-once-front (x ∷ xs) b (o, os) = (each-front (λ y. x ≢ y) xs b o, once-front xs b os)
+use Rattle.graph.proofs.Walked.{none-twice-split}
 
 module _ (g : Graph) (c : List ℕ) where
   abbrev pub stepb : ℕ → ℕ → Bool
@@ -57,6 +49,7 @@ module _ (g : Graph) (c : List ℕ) where
       → Says (everyRoute a b f) ((between : List ℕ) → Route g c a between b → P between)
   says-everyRoute sound a b {f} {P} s = record {
     so = λ t between r. says-implies (says-route a between b) (s between) .so
-        (everyList-so (length (g .nodes)) (λ l. implies (routeb a l b) (f l)) t between (inner sound a between b (r .follows)) (once-front between b (r .once .1))) r;
+        (everyList-so (length (g .nodes)) (λ l. implies (routeb a l b) (f l)) t between (inner sound a between b (r .follows))
+        (none-twice-split between (b ∷ []) (r .once .1) .0)) r;
     back = λ h. everyList-back (length (g .nodes)) (λ l. implies (routeb a l b) (f l)) (λ l. says-implies (says-route a l b) (s l) .back (h l));
   }

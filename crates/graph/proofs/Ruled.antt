@@ -1,6 +1,6 @@
 -- A rule's test is right: it passes exactly when one assignment serves both sides. And a scan of the rules goes one at a time.
 -- Assumes nothing.
-use mathlib.Core.Bool.{Bool, false, true, _||_, true≢false, cond}
+use mathlib.Core.Bool.{Bool, false, true, _||_, true≢false, cond, or-false, or-assoc}
 use mathlib.Core.List.{List, [], _∷_}
 use mathlib.Core.Path.{_∙_, _≡_, refl, subst, sym, ap}
 use Prim.Native.Nat.{_<_, _≤_, suc, zero, ℕ}
@@ -15,7 +15,8 @@ use Rattle.graph.specs.declared.Side.{Side}
 use Rattle.graph.specs.declared.Side.the-variants.{Any, Is}
 use Rattle.graph.specs.declared.Want.{Want}
 use Rattle.graph.specs.declared.Want.the-variants.{Free, Never, Var}
-use Rattle.graph.specs.Fit.{Fits, Matches, Ruled, agree, fitOf, ifSame, ruledb, someb, wantOf}
+use Rattle.graph.specs.Fit.{Fits, Matches, Ruled}
+use Rattle.graph.specs.Tests.{agree, fitOf, ifSame, ruledb, someb, wantOf}
 use Rattle.graph.proofs.Says.{Says, says-eq, says-iff, says-no, says-some, says-yes}
 
 -- what an assignment has to meet
@@ -78,19 +79,16 @@ says-ruled rules p q = says-some (λ r. says-fits r p q) rules
 -- ---- a scan of a list, one at a time
 
 module _ {A : Type 0} (f : A → Bool) where
-  -- one more, where none before it passes
+  -- one more
+  pub some-or : (xs : List A) (i : ℕ) (d : A) → i < length xs → someb f (take (suc i) xs) ≡ (someb f (take i xs) || f (getD xs i d))
+  some-or [] i d h = absurd (not-suc-le-zero h)
+  some-or (x ∷ xs) zero d h = or-false (f x)
+  some-or (x ∷ xs) (suc i) d h =
+      ap (λ (b : Bool). f x || b) (some-or xs i d (le-of-suc-le-suc h)) ∙ sym (or-assoc (f x) (someb f (take i xs)) (f (getD xs i d)))
+
+  -- where none before it passes
   pub some-more : (xs : List A) (i : ℕ) (d : A) → i < length xs → someb f (take i xs) ≡ false → someb f (take (suc i) xs) ≡ f (getD xs i d)
-  some-more [] i d h e = absurd (not-suc-le-zero h)
-  some-more (x ∷ xs) zero d h e = or-false (f x)
-    where
-      or-false : (b : Bool) → (b || false) ≡ b
-      or-false true = refl
-      or-false false = refl
-  some-more (x ∷ xs) (suc i) d h e = skip (f x) e (some-more xs i d (le-of-suc-le-suc h))
-    where
-      skip : (b : Bool) → (b || someb f (take i xs)) ≡ false → (someb f (take i xs) ≡ false → someb f (take (suc i) xs) ≡ f (getD xs i d)) → (b || someb f (take (suc i) xs)) ≡ f (getD xs i d)
-      skip true e k = absurd (true≢false e)
-      skip false e k = k e
+  some-more xs i d h e = some-or xs i d h ∙ ap (λ (b : Bool). b || f (getD xs i d)) e
 
   -- once one passes, more change nothing
   pub some-stays : (xs : List A) (i n : ℕ) → i ≤ n → someb f (take i xs) ≡ true → someb f (take n xs) ≡ true

@@ -2,12 +2,12 @@
 -- Assumes nothing.
 use mathlib.Core.Bool.{Bool, true, false, not, _&&_, _||_}
 use mathlib.Core.List.{List, [], _∷_, List·Memᴰ, List·Memᴰ·head, List·Memᴰ·tail, List·Memᴰ·not-nil, List·Memᴰ·cases-cons, head-eq-of-cons-eq, tail-eq-of-cons-eq}
-use mathlib.Core.Logic.{_⊎_, inl, inr, _≢_}
+use mathlib.Core.Logic.{_⊎_, inl, inr}
 use mathlib.Core.Path.{_≡_, refl, sym, subst, ap₂}
 use Prim.Native.Nat.{ℕ, zero, suc, _<_, _≤_}
 use native.Mathlib.Omega.{arith}
 use lib.Dec.{T, eqb, ltb, leb, eqb→eq, eqb-refl, ltb→lt, lt→ltb, leb→le, le→leb}
-use Rattle.graph.specs.Fit.{someb}
+use Rattle.graph.specs.Tests.{someb}
 use Rattle.graph.specs.Held.{Each, Absent, NoneTwice}
 
 pub record Says (b : Bool) (P : Type 0) : Type 0 where
@@ -94,29 +94,16 @@ module _ {A : Type 0} where
 
   pub says-some : {f : A → Bool} {P : A → Type 0} → ((x : A) → Says (f x) (P x)) → (xs : List A) → Says (someb f xs) ((x : A) × List·Memᴰ x xs × P x)
   says-some s [] = says-no (λ r. List·Memᴰ·not-nil (r .1))
-  says-some {f} {P} s (x ∷ xs) = says-iff to back (says-or (s x) (says-some s xs))
-    where
-      to : P x ⊎ ((y : A) × List·Memᴰ y xs × P y) → (y : A) × List·Memᴰ y (x ∷ xs) × P y
-      to (inl p) = (x, List·Memᴰ·head refl, p)
-      to (inr (y, m, p)) = (y, List·Memᴰ·tail m, p)
-
-      sort : (y : A) → P y → (y ≡ x) ⊎ List·Memᴰ y xs → P x ⊎ ((y : A) × List·Memᴰ y xs × P y)
-      sort y p (inl e) = inl (subst P e p)
-      sort y p (inr m) = inr (y, m, p)
-
-      back : (y : A) × List·Memᴰ y (x ∷ xs) × P y → P x ⊎ ((y : A) × List·Memᴰ y xs × P y)
-      back (y, m, p) = sort y p (List·Memᴰ·cases-cons m)
+  says-some {f} {P} s (x ∷ xs) = says-iff {P = P x ⊎ ((y : A) × List·Memᴰ y xs × P y)}
+      (λ r. elim r [ inl p ↦ (x, List·Memᴰ·head refl, p) | inr (y, m, p) ↦ (y, List·Memᴰ·tail m, p) ])
+      (λ (y, m, p). elim (List·Memᴰ·cases-cons m) [ inl e ↦ inl (subst P e p) | inr k ↦ inr (y, k, p) ])
+      (says-or (s x) (says-some s xs))
 
   pub says-every : {f : A → Bool} {P : A → Type 0} → ((x : A) → Says (f x) (P x)) → (xs : List A) → Says (everyb f xs) ((x : A) → List·Memᴰ x xs → P x)
   says-every s [] = says-yes (λ x m. absurd (List·Memᴰ·not-nil m))
-  says-every {f} {P} s (x ∷ xs) = says-iff to (λ r. (r x (List·Memᴰ·head refl), λ y m. r y (List·Memᴰ·tail m))) (says-and (s x) (says-every s xs))
-    where
-      sort : P x × ((y : A) → List·Memᴰ y xs → P y) → (y : A) → (y ≡ x) ⊎ List·Memᴰ y xs → P y
-      sort r y (inl e) = subst P (sym e) (r .0)
-      sort r y (inr m) = r .1 y m
-
-      to : P x × ((y : A) → List·Memᴰ y xs → P y) → (y : A) → List·Memᴰ y (x ∷ xs) → P y
-      to r y m = sort r y (List·Memᴰ·cases-cons m)
+  says-every {f} {P} s (x ∷ xs) = says-iff {P = P x × ((y : A) → List·Memᴰ y xs → P y)}
+      (λ r y m. elim (List·Memᴰ·cases-cons m) [ inl e ↦ subst P (sym e) (r .0) | inr k ↦ r .1 y k ])
+      (λ r. (r x (List·Memᴰ·head refl), λ y m. r y (List·Memᴰ·tail m))) (says-and (s x) (says-every s xs))
 
 -- some number below n
 abbrev pub someBelow : ℕ → (ℕ → Bool) → Bool
@@ -125,18 +112,10 @@ someBelow (suc n) f = f n || someBelow n f
 
 pub says-below : {f : ℕ → Bool} {P : ℕ → Type 0} (n : ℕ) → ((i : ℕ) → i < n → Says (f i) (P i)) → Says (someBelow n f) ((i : ℕ) × (i < n) × P i)
 says-below zero s = says-no (λ r. let h = r .1 in omega arith)
-says-below {f} {P} (suc n) s = says-iff to back (says-or (s n (omega arith)) (says-below n (λ i h. s i (omega arith))))
-  where
-    to : P n ⊎ ((i : ℕ) × (i < n) × P i) → (i : ℕ) × (i < suc n) × P i
-    to (inl p) = (n, (omega arith), p)
-    to (inr (i, h, p)) = (i, (omega arith), p)
-
-    sort : (i : ℕ) → i < suc n → P i → (i ≡ n) ⊎ (i ≢ n) → P n ⊎ ((i : ℕ) × (i < n) × P i)
-    sort i h p (inl e) = inl (subst P e p)
-    sort i h p (inr d) = inr (i, (omega arith), p)
-
-    back : (i : ℕ) × (i < suc n) × P i → P n ⊎ ((i : ℕ) × (i < n) × P i)
-    back (i, h, p) = sort i h p (decide (says-eq i n))
+says-below {f} {P} (suc n) s = says-iff {P = P n ⊎ ((i : ℕ) × (i < n) × P i)}
+    (λ r. elim r [ inl p ↦ (n, omega arith, p) | inr (i, h, p) ↦ (i, omega arith, p) ])
+    (λ (i, h, p). elim (decide (says-eq i n)) [ inl e ↦ inl (subst P e p) | inr d ↦ inr (i, omega arith, p) ])
+    (says-or (s n (omega arith)) (says-below n (λ i h. s i (omega arith))))
 
 pub both : (b c : Bool) → T (b && c) → T b × T c
 both b c t = (says-and (says-T b) (says-T c)) .so t
@@ -154,4 +133,5 @@ pub says-eqs : (xs ys : List ℕ) → Says (eqs xs ys) (xs ≡ ys)
 says-eqs [] [] = says-yes refl
 says-eqs [] (y ∷ ys) = says-no (λ e. let z : _≡_ {A = ℕ} 0 1 = cc in omega arith)
 says-eqs (x ∷ xs) [] = says-no (λ e. let z : _≡_ {A = ℕ} 0 1 = cc in omega arith)
-says-eqs (x ∷ xs) (y ∷ ys) = says-iff (λ (p, q). ap₂ (λ (a : ℕ) (b : List ℕ). a ∷ b) p q) (λ e. (head-eq-of-cons-eq e, tail-eq-of-cons-eq e)) (says-and (says-eq x y) (says-eqs xs ys))
+says-eqs (x ∷ xs) (y ∷ ys) =
+    says-iff (λ (p, q). ap₂ (λ (a : ℕ) (b : List ℕ). a ∷ b) p q) (λ e. (head-eq-of-cons-eq e, tail-eq-of-cons-eq e)) (says-and (says-eq x y) (says-eqs xs ys))

@@ -1,6 +1,6 @@
 -- A scan for the first number with a property, one number at a time.
 -- Assumes nothing.
-use mathlib.Core.Path.{_≡_, subst}
+use mathlib.Core.Path.{subst}
 use Prim.Native.Nat.{_+_, _<_, _≤_, ℕ}
 use native.Mathlib.Decide.{ℕ-discrete}
 use native.Mathlib.Omega.{arith}
@@ -15,11 +15,7 @@ module _ (P : ℕ → Type 0) (lo : ℕ) where
   passed-none j a b p = absurd (let z : ⊥ = omega arith in z)
 
   pub passed-more : (i : ℕ) → Passed P lo i → (P i → ⊥) → Passed P lo (i + 1)
-  passed-more i f h j a b p = go (ℕ-discrete j i)
-    where
-      go : Dec (j ≡ i) → ⊥
-      go (yes e) = h (subst P e p)
-      go (no e) = f j a (omega (arith, e)) p
+  passed-more i f h j a b p = elim (ℕ-discrete j i) [ yes e ↦ h (subst P e p) | no e ↦ f j a (omega (arith, e)) p ]
 
   pub first-here : (n i : ℕ) → lo ≤ i → i < n → Passed P lo i → P i → FirstFrom P lo n i
   first-here n i a b f p = record { low = a; high = omega arith; none = f; here = λ l. p }
@@ -32,8 +28,4 @@ module _ (P : ℕ → Type 0) (lo : ℕ) where
   first-lower n r f not-lo = record { low = omega (arith, f .low); high = f .high; none = passed; here = f .here }
     where
       passed : Passed P lo r
-      passed j a b p = go (ℕ-discrete j lo)
-        where
-          go : Dec (j ≡ lo) → ⊥
-          go (yes e) = not-lo (subst P e p)
-          go (no e) = f .none j (omega (arith, e)) b p
+      passed j a b p = elim (ℕ-discrete j lo) [ yes e ↦ not-lo (subst P e p) | no e ↦ f .none j (omega (arith, e)) b p ]

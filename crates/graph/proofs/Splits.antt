@@ -8,19 +8,10 @@ use native.Mathlib.Decide.{decLe}
 use native.Mathlib.Omega.{arith}
 
 pub lt-or-ge : (a b : ℕ) → (a < b) ⊎ (b ≤ a)
-lt-or-ge a b = go (decLe b a)
-  where
-    go : Dec (b ≤ a) → (a < b) ⊎ (b ≤ a)
-    go (yes p) = inr p
-    go (no f) = inl (omega (arith, f))
+lt-or-ge a b = elim (decLe b a) [ yes p ↦ inr p | no f ↦ inl (omega (arith, f)) ]
 
 pub tri : (a b : ℕ) → (a < b) ⊎ ((a ≡ b) ⊎ (b < a))
-tri a b = go (lt-or-ge a b) (lt-or-ge b a)
-  where
-    go : (a < b) ⊎ (b ≤ a) → (b < a) ⊎ (a ≤ b) → (a < b) ⊎ ((a ≡ b) ⊎ (b < a))
-    go (inl h) k = inl h
-    go (inr h) (inl k) = inr (inr k)
-    go (inr h) (inr k) = inr (inl (omega arith))
+tri a b = elim (lt-or-ge a b) [ inl h ↦ inl h | inr h ↦ elim (lt-or-ge b a) [ inl k ↦ inr (inr k) | inr k ↦ inr (inl (omega arith)) ] ]
 
 pub bool : (b : Bool) → (b ≡ true) ⊎ (b ≡ false)
 bool true = inl refl

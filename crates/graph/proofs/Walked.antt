@@ -6,14 +6,10 @@ use mathlib.Core.Path.{sym}
 use Prim.Native.Nat.{ℕ}
 use Rattle.graph.specs.Held.{Each, Absent, NoneTwice, Follows}
 
-module _ (S : ℕ → ℕ → Type 0) where
-  pub follows-split : (a : ℕ) (seen : List ℕ) (x : ℕ) (rest : List ℕ) (b : ℕ) → Follows S a (seen ++ x ∷ rest) b → Follows S a seen x × Follows S x rest b
-  follows-split a [] x rest b s = s
-  follows-split a (y ∷ seen) x rest b s = let r = follows-split y seen x rest b (s .1) in ((s .0, r .0), r .1)
-
-  pub follows-join : (a : ℕ) (seen : List ℕ) (x : ℕ) (rest : List ℕ) (b : ℕ) → Follows S a seen x → Follows S x rest b → Follows S a (seen ++ x ∷ rest) b
-  follows-join a [] x rest b s t = (s, t)
-  follows-join a (y ∷ seen) x rest b s t = (s .0, follows-join y seen x rest b (s .1) t)
+pub follows-up : {S S′ : ℕ → ℕ → Type 0} → ((p q : ℕ) → S p q → S′ p q) → (a : ℕ) (between : List ℕ) (b : ℕ)
+    → Follows S a between b → Follows S′ a between b
+follows-up up a [] b f = up a b f
+follows-up up a (x ∷ between) b f = (up a x (f .0), follows-up up x between b (f .1))
 
 -- none of the second list is in the first
 abbrev pub Apart : List ℕ → List ℕ → Type 0

@@ -3,7 +3,7 @@
 use mathlib.Core.List.{List, [], _∷_, _++_, List·Memᴰ, append-nil}
 use mathlib.Core.Logic.{_⊎_, inl, inr, _≢_}
 use mathlib.Core.Path.{_≡_, refl, sym, ap, _∙_, fun-ext, subst, subst⁻¹}
-use Prim.Native.Nat.{ℕ, zero, suc, _+_, _<_, _≤_}
+use Prim.Native.Nat.{ℕ, zero, suc, _+_, _<_}
 use native.Mathlib.Decide.{ℕ-discrete, decLt}
 use native.Mathlib.Omega.{arith}
 use lib.ListN.{length, getD, set, length-append, length-set, List·getD-append}
@@ -14,24 +14,28 @@ use Rattle.graph.specs.declared.Label.the-variants.{Fence}
 use Rattle.graph.specs.declared.Order.{Order}
 use Rattle.graph.specs.declared.Rule.{Rule}
 use Rattle.graph.specs.declared.Side.the-variants.{Any, Is}
-use Rattle.graph.specs.Cut.{Rising, Separates, weight}
+use Rattle.graph.specs.Cut.{Rising, Separates}
 use Rattle.graph.specs.Fit.{Ruled}
 use Rattle.graph.specs.Graph.{Graph, label, edge, no-edge}
 use Rattle.graph.specs.Held.{Linked, by-rule, Absent, Within, Step, Follows, Orders, HeldWithout, Held, by-way}
 use Rattle.graph.specs.Written.{fenced, written, FenceRules}
-use Rattle.graph.proofs.Lists.{split}
+use Rattle.graph.proofs.Lists.{each-map, split}
+use Rattle.graph.proofs.Walked.{follows-up}
 
 -- each label is ordered before a later fence and after an earlier one
 abbrev pub Fencing : List Rule → Type 0
 Fencing rules = (p : Label) → Ruled rules p Fence × Ruled rules Fence p
 
 pub fencing-so : {rules : List Rule} → FenceRules rules → Fencing rules
-fencing-so r p = ((record { left = Any; right = (Is Fence) }, r .to-fence, (λ v. v, tt, tt)), (record { left = (Is Fence); right = Any }, r .from-fence, (λ v. v, tt, tt)))
+fencing-so r p =
+    ((record { left = Any; right = (Is Fence) }, r .to-fence, (λ v. v, tt, tt)), (record { left = (Is Fence); right = Any }, r .from-fence, (λ v. v, tt, tt)))
 
 -- a fence between orders the ends
-pub fence-orders : {rules : List Rule} → Fencing rules → (l : ℕ → Label) (v : ℕ) → l v ≡ Fence → (a b : ℕ) (before after : List ℕ) → Linked rules l a (before ++ v ∷ after) b
+pub fence-orders : {rules : List Rule} → Fencing rules → (l : ℕ → Label) (v : ℕ) → l v ≡ Fence → (a b : ℕ) (before after : List ℕ)
+    → Linked rules l a (before ++ v ∷ after) b
 fence-orders {rules} has l v e a b before after =
-    by-way v before after refl (by-rule (subst⁻¹ (λ (x : Label). Ruled rules (l a) x) e (has (l a) .0))) (by-rule (subst⁻¹ (λ (x : Label). Ruled rules x (l b)) e (has (l b) .1)))
+    by-way v before after refl (by-rule (subst⁻¹ (λ (x : Label). Ruled rules (l a) x) e (has (l a) .0)))
+    (by-rule (subst⁻¹ (λ (x : Label). Ruled rules x (l b)) e (has (l b) .1)))
 
 -- the two edges that a fence makes of one
 abbrev pub into : Graph → ℕ → Edge
@@ -39,6 +43,19 @@ into g e = record { from = (edge g e) .from; to = length (g .nodes); weight = (e
 
 abbrev pub out-of : Graph → ℕ → Edge
 out-of g e = record { from = length (g .nodes); to = (edge g e) .to; weight = (edge g e) .weight }
+
+-- two edges agree in ends and weight
+abbrev pub Agree : Edge → Edge → Type 0
+Agree x y = (x .from ≡ y .from) × (x .to ≡ y .to) × (x .weight ≡ y .weight)
+
+pub agree : {x y : Edge} → x ≡ y → Agree x y
+agree e = (ap (λ (z : Edge). z .from) e, ap (λ (z : Edge). z .to) e, ap (λ (z : Edge). z .weight) e)
+
+-- where an edge of the fenced graph comes from
+abbrev pub Place : Graph → ℕ → ℕ → Type 0
+Place g e i =
+    ((i < length (g .edges)) × (i ≢ e) × Agree (edge (fenced g e) i) (edge g i))
+    ⊎ (((i ≡ e) × Agree (edge (fenced g e) i) (into g e)) ⊎ ((i ≡ length (g .edges)) × Agree (edge (fenced g e) i) (out-of g e)))
 
 module _ (g : Graph) (e : ℕ) (fits : e < length (g .edges)) where
   pub fenced-count : length ((fenced g e) .edges) ≡ suc (length (g .edges))
@@ -70,23 +87,20 @@ module _ (g : Graph) (e : ℕ) (fits : e < length (g .edges)) where
   pub edge-new : edge (fenced g e) (length (g .edges)) ≡ out-of g e
   edge-new = second-put _ _
 
-  -- an edge of the fenced graph that does not touch the fence is an old one, and not e
-  old-edge : (i : ℕ) → i < length ((fenced g e) .edges) → (edge (fenced g e) i) .from ≢ length (g .nodes) → (edge (fenced g e) i) .to ≢ length (g .nodes)
-      → (i < length (g .edges)) × (i ≢ e) × (edge (fenced g e) i ≡ edge g i)
-  old-edge i h p q = go (decLt i (length (g .edges))) (ℕ-discrete i e)
-    where
-      go : Dec (i < length (g .edges)) → Dec (i ≡ e) → (i < length (g .edges)) × (i ≢ e) × (edge (fenced g e) i ≡ edge g i)
-      go (yes l) (no d) = (l, d, edge-other i l d)
-      go (yes l) (yes s) = absurd (q (subst (λ (k : ℕ). (edge (fenced g e) k) .to ≡ length (g .nodes)) (sym s) (ap (λ (x : Edge). x .to) edge-same)))
-      go (no l) d =
-          let s : i ≡ length (g .edges) = omega (arith, fenced-count) in
-          absurd (p (subst (λ (k : ℕ). (edge (fenced g e) k) .from ≡ length (g .nodes)) (sym s) (ap (λ (x : Edge). x .from) edge-new)))
+  pub place : (i : ℕ) → i < length ((fenced g e) .edges) → Place g e i
+  place i h = elim (decLt i (length (g .edges))) [
+    | yes l ↦ elim (ℕ-discrete i e) [ yes s ↦ inr (inl (s, agree (ap (edge (fenced g e)) s ∙ edge-same))) | no d ↦ inl (l, d, agree (edge-other i l d)) ]
+    | no l ↦
+        let s : i ≡ length (g .edges) = omega (arith, fenced-count) in
+        inr (inr (s, agree (ap (edge (fenced g e)) s ∙ edge-new)))
+  ]
 
-  -- so a step of the fenced graph between other nodes is a step of the old one, and not on e
+  -- a step of the fenced graph between other nodes than the fence is a step of the old one, and not on e
   pub old-step : (c : List ℕ) (x y : ℕ) → x ≢ length (g .nodes) → y ≢ length (g .nodes) → Step (fenced g e) c x y → Step g (e ∷ c) x y
-  old-step c x y p q (i, h, out, f, t) =
-      let o = old-edge i h (λ z. p (sym f ∙ z)) (λ z. q (sym t ∙ z)) in
-      (i, o .0, (o .1, out), sym (ap (λ (z : Edge). z .from) (o .2)) ∙ f, sym (ap (λ (z : Edge). z .to) (o .2)) ∙ t)
+  old-step c x y p q (i, h, out, f, t) = elim (place i h) [
+    | inl o ↦ (i, o .0, (o .1, out), sym (o .2 .0) ∙ f, sym (o .2 .1) ∙ t)
+    | inr o ↦ absurd (elim o [ inl k ↦ q (sym t ∙ k .1 .1) | inr k ↦ p (sym f ∙ k .1 .0) ])
+  ]
 
   pub old-follows : (c : List ℕ) (a b : ℕ) (between : List ℕ) → a ≢ length (g .nodes) → Absent (length (g .nodes)) between → b ≢ length (g .nodes)
       → Follows (Step (fenced g e) c) a between b → Follows (Step g (e ∷ c)) a between b
@@ -111,23 +125,24 @@ orders-up {rules} g e a between b o = subst⁻¹ (λ (l : ℕ → Label). Linked
 -- held on the routes that avoid e and c: held, once e has a fence, on those that avoid c
 pub held-fenced : {rules : List Rule} → Fencing rules → (g : Graph) (e : ℕ) → e < length (g .edges) → (c : List ℕ) (a b : ℕ)
     → a < length (g .nodes) → b < length (g .nodes) → HeldWithout g rules (e ∷ c) a b → HeldWithout (fenced g e) rules c a b
-held-fenced {rules} has g e fits c a b a< b< held between r = go (split n between)
+held-fenced {rules} has g e fits c a b a< b< held between r = elim (split n between) [
+  | inl (before, after, same) ↦
+      subst⁻¹ (λ (m : List ℕ). Linked rules (label (fenced g e)) a m b) same
+      (fence-orders has (label (fenced g e)) n (getD-append-seam (g .nodes) Fence [] Fence) a b before after)
+  | inr away ↦
+      orders-up g e a between b (held between record {
+        follows = old-follows g e fits c a b between (omega arith) away (omega arith) (r .follows);
+        once = r .once;
+      })
+]
   where
     n : ℕ
     n = length (g .nodes)
 
-    go : ((before : List ℕ) × (after : List ℕ) × (between ≡ before ++ n ∷ after)) ⊎ Absent n between → Orders (fenced g e) rules a between b
-    go (inl (before, after, same)) =
-        subst⁻¹ (λ (m : List ℕ). Linked rules (label (fenced g e)) a m b) same (fence-orders has (label (fenced g e)) n (getD-append-seam (g .nodes) Fence [] Fence) a b before after)
-    go (inr away) =
-        orders-up g e a between b (held between record {
-          follows = old-follows g e fits c a b between (omega arith) away (omega arith) (r .follows);
-          once = r .once;
-        })
-
-pub within-more : (m n : ℕ) (c : List ℕ) → m ≤ n → Within m c → Within n c
-within-more m n [] h w = tt
-within-more m n (x ∷ c) h w = let w0 = w .0 in (omega arith, within-more m n c h (w .1))
+-- the rest of a cut lies within the edges still
+pub later-within : (g : Graph) (e : ℕ) (c : List ℕ) → Within (length (g .edges)) (e ∷ c) → Within (length ((fenced g e) .edges)) c
+later-within g e c w =
+    each-map (λ i. i < length (g .edges)) (λ i. i < length ((fenced g e) .edges)) c (λ i h. omega (arith, fenced-count g e (w .0), h)) (w .1)
 
 -- held on the routes that avoid c: held in the graph with a fence at each of c
 pub held-written : {rules : List Rule} → Fencing rules → (g : Graph) (c : List ℕ) → Within (length (g .edges)) c → (a b : ℕ)
@@ -135,26 +150,22 @@ pub held-written : {rules : List Rule} → Fencing rules → (g : Graph) (c : Li
 held-written has g [] w a b a< b< held = held
 held-written has g (e ∷ c) w a b a< b< held =
     let m : length ((fenced g e) .nodes) ≡ length (g .nodes) + 1 = length-append (g .nodes) (Fence ∷ []) in
-    held-written has (fenced g e) c (within-more (length (g .edges)) (length ((fenced g e) .edges)) c (omega (arith, fenced-count g e (w .0))) (w .1)) a b (omega arith) (omega arith)
-    (held-fenced has g e (w .0) c a b a< b< held)
+    held-written has (fenced g e) c (later-within g e c w) a b (omega arith) (omega arith) (held-fenced has g e (w .0) c a b a< b< held)
 
 -- a route that avoids c avoids nothing
 free-step : (g : Graph) (c : List ℕ) (x y : ℕ) → Step g c x y → Step g [] x y
 free-step g c x y (i, h, out, f, t) = (i, h, tt, f, t)
 
-free-follows : (g : Graph) (c : List ℕ) (a b : ℕ) (between : List ℕ) → Follows (Step g c) a between b → Follows (Step g []) a between b
-free-follows g c a b [] s = free-step g c a b s
-free-follows g c a b (x ∷ between) s = (free-step g c a x (s .0), free-follows g c x b between (s .1))
-
 pub held-without : {rules : List Rule} (g : Graph) (c : List ℕ) (a b : ℕ) → HeldWithout g rules [] a b → HeldWithout g rules c a b
-held-without g c a b held between r = held between record { follows = free-follows g c a b between (r .follows); once = r .once }
+held-without g c a b held between r = held between record { follows = follows-up (free-step g c) a between b (r .follows); once = r .once }
 
 pub rising-within : (lo m : ℕ) (c : List ℕ) → Rising lo m c → Within m c
 rising-within lo m [] r = tt
 rising-within lo m (x ∷ c) r = (r .1, rising-within (suc x) m c (r .2))
 
 -- demand 2: in the graph written every asked order is held
-pub asked-held : {rules : List Rule} → FenceRules rules → (g : Graph) (orders : List Order) (c : List ℕ) → Rising 0 (length (g .edges)) c → Separates g rules orders c
+pub asked-held : {rules : List Rule} → FenceRules rules → (g : Graph) (orders : List Order) (c : List ℕ) → Rising 0 (length (g .edges)) c
+    → Separates g rules orders c
     → (o : Order) → List·Memᴰ o orders → o .first < length (g .nodes) → o .second < length (g .nodes) → Held (written g c) rules o
 asked-held has g orders c r sep o m a< b< = held-written (fencing-so has) g c (rising-within 0 (length (g .edges)) c r) (o .first) (o .second) a< b< (sep o m)
 
@@ -166,21 +177,22 @@ orders-down {rules} g e a between b o = subst (λ (l : ℕ → Label). Linked ru
 module _ (g : Graph) (e : ℕ) (fits : e < length (g .edges)) where
   new-step : (c : List ℕ) (x y : ℕ) → Step g (e ∷ c) x y → Step (fenced g e) c x y
   new-step c x y (i, h, (d, out), f, t) =
-      (i, omega (arith, fenced-count g e fits), out, ap (λ (z : Edge). z .from) (edge-other g e fits i h d) ∙ f, ap (λ (z : Edge). z .to) (edge-other g e fits i h d) ∙ t)
-
-  new-follows : (c : List ℕ) (a b : ℕ) (between : List ℕ) → Follows (Step g (e ∷ c)) a between b → Follows (Step (fenced g e) c) a between b
-  new-follows c a b [] s = new-step c a b s
-  new-follows c a b (x ∷ between) s = (new-step c a x (s .0), new-follows c x b between (s .1))
+      let o = edge-other g e fits i h d in
+      (i, omega (arith, fenced-count g e fits), out, ap (λ (z : Edge). z .from) o ∙ f, ap (λ (z : Edge). z .to) o ∙ t)
 
   fenced-held : {rules : List Rule} (c : List ℕ) (a b : ℕ) → HeldWithout (fenced g e) rules c a b → HeldWithout g rules (e ∷ c) a b
-  fenced-held c a b held between r = orders-down g e a between b (held between record { follows = new-follows c a b between (r .follows); once = r .once })
+  fenced-held c a b held between r =
+      orders-down g e a between b (held between record { follows = follows-up (new-step c) a between b (r .follows); once = r .once })
 
-written-held : {rules : List Rule} (g : Graph) (c d : List ℕ) → Within (length (g .edges)) c → (a b : ℕ) → HeldWithout (written g c) rules d a b → HeldWithout g rules (c ++ d) a b
+written-held : {rules : List Rule} (g : Graph) (c d : List ℕ) → Within (length (g .edges)) c → (a b : ℕ) → HeldWithout (written g c) rules d a b
+    → HeldWithout g rules (c ++ d) a b
 written-held g [] d w a b held = held
 written-held g (e ∷ c) d w a b held =
-    fenced-held g e (w .0) (c ++ d) a b (written-held (fenced g e) c d (within-more (length (g .edges)) (length ((fenced g e) .edges)) c (omega (arith, fenced-count g e (w .0))) (w .1)) a b held)
+    fenced-held g e (w .0) (c ++ d) a b (written-held (fenced g e) c d (later-within g e c w) a b held)
 
 -- a set separates if, each of its edges given a fence, every asked order is held
-pub held-separates : {rules : List Rule} (g : Graph) (orders : List Order) (c : List ℕ) → Rising 0 (length (g .edges)) c → ((o : Order) → List·Memᴰ o orders → Held (written g c) rules o) → Separates g rules orders c
+pub held-separates : {rules : List Rule} (g : Graph) (orders : List Order) (c : List ℕ) → Rising 0 (length (g .edges)) c
+    → ((o : Order) → List·Memᴰ o orders → Held (written g c) rules o) → Separates g rules orders c
 held-separates {rules} g orders c r held o m =
-    subst (λ (l : List ℕ). HeldWithout g rules l (o .first) (o .second)) (append-nil c) (written-held g c [] (rising-within 0 (length (g .edges)) c r) (o .first) (o .second) (held o m))
+    subst (λ (l : List ℕ). HeldWithout g rules l (o .first) (o .second)) (append-nil c)
+    (written-held g c [] (rising-within 0 (length (g .edges)) c r) (o .first) (o .second) (held o m))

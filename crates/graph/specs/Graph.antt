@@ -47,4 +47,5 @@ order orders i = getD orders i no-order
 -- "An order's two nodes differ, and no order stands twice." They are among the n nodes
 pub record Orderly (n : ℕ) (orders : List Order) : Type 0 where
   pub ends : (i : ℕ) → i < length orders → ((order orders i) .first < n) × ((order orders i) .second < n) × ((order orders i) .first ≢ (order orders i) .second)
-  pub once : (i j : ℕ) → i < length orders → j < length orders → (order orders i) .first ≡ (order orders j) .first → (order orders i) .second ≡ (order orders j) .second → i ≡ j
+  pub once : (i j : ℕ) → i < length orders → j < length orders → (order orders i) .first ≡ (order orders j) .first
+      → (order orders i) .second ≡ (order orders j) .second → i ≡ j

@@ -7,8 +7,8 @@ pub mod Cut
 pub mod Written
 pub mod Strip
 pub mod Refusal
-pub mod Demands
 pub mod Samples
 pub mod Limits
 pub mod Value
 pub mod Scan
+pub mod Tests

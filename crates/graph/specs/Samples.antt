@@ -2,7 +2,8 @@
 -- Assumes nothing.
 use mathlib.Core.List.{List, [], _∷_, _++_, List·Memᴰ}
 use mathlib.Core.Path.{_≡_}
-use Prim.Native.Nat.{ℕ}
+use Prim.Native.Nat.{ℕ, _+_, _*_}
+use lib.ListN.{length}
 use Rattle.graph.specs.declared.Edge.{Edge}
 use Rattle.graph.specs.declared.Label.the-variants.{Fence, Load, Store}
 use Rattle.graph.specs.declared.Order.{Order}
@@ -10,9 +11,9 @@ use Rattle.graph.specs.declared.Rule.{Rule}
 use Rattle.graph.specs.declared.Side.{Side}
 use Rattle.graph.specs.declared.Side.the-variants.{Any, Is}
 use Rattle.graph.specs.Ask.{Asked}
-use Rattle.graph.specs.Cut.{ChosenCut, weight, total}
+use Rattle.graph.specs.Cut.{Cut, ChosenCut, weight}
 use Rattle.graph.specs.Graph.{Graph, Sound, no-graph, order}
-use Rattle.graph.specs.Held.{Held}
+use Rattle.graph.specs.Held.{Held, Route}
 use Rattle.graph.specs.Strip.{StripTo}
 use Rattle.graph.specs.Written.{written}
 
@@ -62,6 +63,14 @@ pub data Sample : Type 0 where
   off : (count : ℕ) → List Rule → List Order → Graph → (cut : List ℕ) → (total : ℕ) → Sample
   -- an order names a node that would go
   not-off : (count : ℕ) → List Rule → List Order → Graph → Sample
+  -- these edges are a cut of that weight too
+  tied : Graph → List Rule → List Order → (cut : List ℕ) → (total : ℕ) → Sample
+  -- no route leads from the first of these nodes to the second
+  no-route : Graph → (a b : ℕ) → Sample
+  -- by its records the file has so many bytes
+  long : Graph → List Rule → List Order → (size : ℕ) → Sample
+  -- run for these orders, then for later ones on what it wrote, with these cuts, then stripped to the first node count: the graph again, and the weight
+  twice : Graph → List Rule → (orders later : List Order) → (cut next : List ℕ) → (total : ℕ) → Sample
 
 -- what a sample claims, of the definitions
 abbrev pub Claim : Sample → Type 0
@@ -70,18 +79,28 @@ Claim (ran g rules orders held cut total) =
 Claim (asked g rules orders number route) = Sound g × Asked g rules (order orders number) route
 Claim (off count rules orders g cut total) = StripTo count orders (written g cut) total g
 Claim (not-off count rules orders g) = (total : ℕ) (left : Graph) → ¬ StripTo count orders g total left
+Claim (tied g rules orders cut total) = Cut g rules orders cut × (weight g cut ≡ total)
+Claim (no-route g a b) = (between : List ℕ) → ¬ Route g [] a between b
+Claim (long g rules orders size) = length (g .nodes) * 4 + length (g .edges) * 8 + length rules * 6 + length orders * 6 + 2 ≡ size
+Claim (twice g rules orders later cut next total) =
+    ChosenCut g rules orders cut × ChosenCut (written g cut) rules later next × StripTo (length (g .nodes)) later (written (written g cut) next) total g
 
 -- P1 to P12
 abbrev pub samples : List Sample
 samples =
     ran (D-of 3) D-rules D-orders (or 0 1 ∷ []) (1 ∷ 2 ∷ []) 2  -- P1
+    ∷ long (D-of 3) D-rules D-orders 84
+    ∷ long (written (D-of 3) (1 ∷ 2 ∷ [])) D-rules D-orders 108
     ∷ ran (D-of 2) D-rules D-orders [] (0 ∷ []) 2  -- P2
+    ∷ tied (D-of 2) D-rules D-orders (1 ∷ 2 ∷ []) 2
     ∷ ran (D-of 1) D-rules D-orders [] (0 ∷ []) 1  -- P3
     ∷ ran (D-of 3) (D-rules ++ (rule (Is (Store 1)) (Is (Load 1)) ∷ [])) D-orders D-orders [] 0  -- P4
     ∷ ran (D-of 3) D-rules (or 2 0 ∷ []) (or 2 0 ∷ []) [] 0  -- P5
+    ∷ no-route (D-of 3) 2 0
     ∷ ran diamond D-rules (or 0 3 ∷ []) [] (0 ∷ []) 1  -- P6, with request 7: the other route has a fence
     ∷ ran loop fence-rules (or 0 2 ∷ []) [] (0 ∷ []) 1  -- P7
     ∷ ran no-graph fence-rules [] [] [] 0  -- P8
+    ∷ long no-graph fence-rules [] 14
     ∷ asked (D-of 3) D-rules D-orders 0 (0 ∷ 1 ∷ 2 ∷ [])  -- P9
     ∷ asked (D-of 3) D-rules D-orders 2 []  -- P10
     ∷ off 4 D-rules D-orders (D-of 3) (1 ∷ 2 ∷ []) 2  -- P11
@@ -132,4 +151,6 @@ more-samples =
     (or 0 3 ∷ [])
     0
     (0 ∷ 1 ∷ 3 ∷ [])
+    -- D asked for (0,2), then what was written for (0,3), then stripped to 4
+    ∷ twice (D-of 3) D-rules (or 0 2 ∷ []) (or 0 3 ∷ []) (1 ∷ []) (2 ∷ []) 2
     ∷ []

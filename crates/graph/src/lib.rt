@@ -3,7 +3,7 @@ ghost use mathlib.Core.Path.{_≡_};
 ghost use mathlib.Core.List.{[]};
 ghost use Prim.Native.Nat.{_≤_};
 ghost use lib.ListN.{take};
-ghost use Rattle.graph.specs.Fit.{wantOf, fitOf, ruledb};
+ghost use Rattle.graph.specs.Tests.{wantOf, fitOf, ruledb};
 ghost use Rattle.graph.specs.Graph.{no-graph};
 ghost use Rattle.graph.specs.Limits.{most-rules};
 ghost use Rattle.graph.specs.Value.{graphOf, rulesOf, ordersOf, Sized, Roomy};

@@ -1,5 +1,4 @@
--- The mathematics of what is left of a route, and of the two tests for it: the quick one (Fallen, Hope, Reached), and the sharp one (Sifted).
-pub mod Rest
+-- The mathematics of the two tests for a way on: the quick one (Fallen, Hope, Reached), and the sharp one (Sifted).
 pub mod Fallen
 pub mod Hope
 pub mod Reached

@@ -1,3 +1,2 @@
--- The definitions that this crate's contracts cite. Rest: what is left of a route at a node. Hope: what the tests say of their sets.
-pub mod Rest
+-- The definitions that this crate's contracts cite: what the tests for a way on say of their sets.
 pub mod Hope

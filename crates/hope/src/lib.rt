@@ -10,8 +10,9 @@ use sets::lowest;
 use sets::lowest_from;
 use sets::none;
 use sets::put_in;
-use sets::with;
+use sets::take_out;
 use sets::without;
+use step::marked;
 use words::Sets;
 ghost use mathlib.Core.Path.{_≡_};
 ghost use mathlib.Core.Bool.{true, false};
@@ -21,33 +22,13 @@ ghost use Rattle.graph.specs.Limits.{most-nodes};
 ghost use Rattle.flags.specs.Flag.{flag};
 ghost use Rattle.sets.specs.Whole.{whole, rows};
 ghost use Rattle.words.specs.Words.{listed};
-ghost use Rattle.hope.specs.Rest.{Next, mark};
-ghost use Rattle.hope.specs.Hope.{Into, Lowered};
-
-// The nodes that are ordered after the first if they come next, once the route has gone on to v.
-pub fn mark_on<'a, 'b>(fits: &'a Sets, after: &'b mut Set, v: usize)
-    requires { ⌜ v < most-nodes ⌝ }
-    ensures { λ r. ⌜ whole (now (after .exit)) ≡ mark (rows (now (fits .entry))) (whole (now (after .entry))) v ⌝ }
-{
-    if has(after, v) {
-        *after = either(*after, fits[v]);
-    }
-}
-
-// The same, of a set by value.
-pub fn marked<'a>(fits: &'a Sets, after: Set, v: usize) -> Set
-    requires { ⌜ v < most-nodes ⌝ }
-    ensures { λ r. ⌜ whole r ≡ mark (rows (now (fits .entry))) (whole after) v ⌝ }
-{
-    let mut more = after;
-    mark_on(fits, &mut more, v);
-    more
-}
+ghost use Rattle.step.specs.Rest.{GoesOn};
+ghost use Rattle.hope.specs.Hope.{Into, IntoOf, Lowered, open-steps};
 
 // Those of the first n nodes that some rule fits with the goal.
 pub fn into_set<'a>(fits: &'a Sets, n: usize, goal: usize) -> Set
     requires { ⌜ (n ≤ most-nodes) × (goal < most-nodes) ⌝ }
-    ensures { λ r. ⌜ Into (rows (now (fits .entry))) goal (whole r) ⌝ }
+    ensures { λ r. ⌜ IntoOf (rows (now (fits .entry))) goal n (whole r) ⌝ }
 {
     let mut into = none();
     for p in 0..n {
@@ -84,6 +65,24 @@ fn lower<'a>(least: &'a mut Sets, met: Set, next: Set, m: Set) -> Set
     }
 }
 
+// Brings the rows of the nodes that a way may go on to from x down to m, which is ordered after the first on arrival there. The nodes whose
+// rows changed.
+fn lower_on<'a>(
+    succ: &'a Sets,
+    into: &'a Set,
+    visited: &'a Set,
+    least: &'a mut Sets,
+    met: Set,
+    m: Set,
+    x: usize,
+) -> Set
+    requires { ⌜ x < most-nodes ⌝ }
+    ensures { λ r. ⌜ Lowered (rows (now (least .entry))) (rows (now (least .exit))) (whole met) (open-steps (rows (now (succ .entry))) (whole (now (into .entry))) (whole (now (visited .entry))) x (whole m)) (whole m) (whole r) ⌝ }
+{
+    let next = without(succ[x], either(*visited, both(m, *into)));
+    lower(least, met, next, m)
+}
+
 // Whether a way has come to the goal and leaves it unordered.
 fn came_open<'a>(least: &'a Sets, met: Set, goal: usize) -> bool
     requires { ⌜ goal < most-nodes ⌝ }
@@ -109,15 +108,12 @@ pub fn hopeful<'a>(
     v: usize,
 ) -> bool
     requires { ⌜ (v < most-nodes) × (goal < most-nodes) × Into (rows (now fits)) goal (whole (now into)) ⌝ }
-    ensures { λ r. ⌜ (r ≡ false → (l : List ℕ) → Next (rows (now (succ .entry))) (rows (now (fits .entry))) goal (whole (now (visited .entry))) (whole (now (after .entry))) v l → ⊥) ⌝ }
+    ensures { λ r. ⌜ (r ≡ false → (l : List ℕ) → GoesOn (rows (now (succ .entry))) (rows (now (fits .entry))) goal (whole (now (visited .entry))) (whole (now (after .entry))) v l → ⊥) ⌝ }
 {
     if has(after, goal) {
         return false;
     }
-    let seen = *visited;
-    let last = *into;
-    let first = without(succ[v], either(seen, both(*after, last)));
-    let mut left = lower(least, none(), first, *after);
+    let mut left = lower_on(succ, into, visited, least, none(), *after, v);
     let mut met = left;
     for _round in 0..ROUNDS {
         if came_open(least, met, goal) {
@@ -127,12 +123,12 @@ pub fn hopeful<'a>(
         if x == Graph::NODES {
             return false;
         }
+        take_out(&mut left, x);
         let m = marked(fits, least[x], x);
-        let next = without(succ[x], either(seen, both(m, last)));
-        let fell = lower(least, met, next, m);
+        let fell = lower_on(succ, into, visited, least, met, m, x);
         let wider = either(met, fell);
         met = wider;
-        let rest = either(without(left, with(none(), x)), fell);
+        let rest = either(left, fell);
         left = rest;
     }
     true
@@ -163,7 +159,7 @@ pub fn hopeless<'a>(
     v: usize,
 ) -> bool
     requires { ⌜ (v < most-nodes) × (goal < most-nodes) × Into (rows (now fits)) goal (whole (now into)) ⌝ }
-    ensures { λ r. ⌜ (r ≡ true → (l : List ℕ) → Next (rows (now (succ .entry))) (rows (now (fits .entry))) goal (whole (now (visited .entry))) (whole (now (after .entry))) v l → ⊥) ⌝ }
+    ensures { λ r. ⌜ (r ≡ true → (l : List ℕ) → GoesOn (rows (now (succ .entry))) (rows (now (fits .entry))) goal (whole (now (visited .entry))) (whole (now (after .entry))) v l → ⊥) ⌝ }
 {
     if !wary {
         return false;

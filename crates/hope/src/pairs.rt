@@ -2,13 +2,13 @@
 // after the first. Routes may be taken for walks here: one that comes back to a node has no less ordered than one that doesn't.
 use crate::branches;
 use crate::hopeful;
-use crate::marked;
 use graph::Graph;
 use sets::Set;
 use sets::has;
 use sets::lowest;
 use sets::put_in;
 use sets::with;
+use step::marked;
 use words::Sets;
 use words::sized;
 ghost use mathlib.Core.Path.{_≡_};
@@ -17,8 +17,8 @@ ghost use mathlib.Core.List.{List};
 ghost use Prim.Native.Nat.{ℕ, _<_, _≤_};
 ghost use Rattle.graph.specs.Limits.{most-nodes};
 ghost use Rattle.sets.specs.Whole.{whole, rows};
-ghost use Rattle.hope.specs.Rest.{Next};
-ghost use Rattle.hope.specs.Hope.{most-pairs, Into, Known};
+ghost use Rattle.step.specs.Rest.{GoesOn};
+ghost use Rattle.hope.specs.Hope.{most-pairs, Into, Dominated};
 
 // How many pairs `some_way` keeps before it gives up and answers true.
 const PAIRS: usize = Graph::NODES;
@@ -26,7 +26,7 @@ const PAIRS: usize = Graph::NODES;
 // Whether one of the first n pairs has this node, and a set within w: what goes on from (y, w) then goes on from that pair too.
 fn known<'a>(nodes: &'a [usize; PAIRS], kept: &'a [Set; PAIRS], n: usize, y: usize, w: Set) -> bool
     requires { ⌜ n ≤ most-pairs ⌝ }
-    ensures { λ r. ⌜ (r ≡ true → Known (now (nodes .entry)) (rows (now (kept .entry))) n y (whole w)) ⌝ }
+    ensures { λ r. ⌜ (r ≡ true → Dominated (now (nodes .entry)) (rows (now (kept .entry))) n y (whole w)) ⌝ }
 {
     let mut j = 0;
     while j < n {
@@ -52,7 +52,7 @@ fn some_way<'a>(
     v: usize,
 ) -> bool
     requires { ⌜ (v < most-nodes) × (goal < most-nodes) ⌝ }
-    ensures { λ r. ⌜ (r ≡ false → (l : List ℕ) → Next (rows (now (succ .entry))) (rows (now (fits .entry))) goal (whole (now (visited .entry))) (whole (now (after .entry))) v l → ⊥) ⌝ }
+    ensures { λ r. ⌜ (r ≡ false → (l : List ℕ) → GoesOn (rows (now (succ .entry))) (rows (now (fits .entry))) goal (whole (now (visited .entry))) (whole (now (after .entry))) v l → ⊥) ⌝ }
 {
     sized(*kept);
     let mut nodes = [0usize; PAIRS];
@@ -106,7 +106,7 @@ pub fn lost<'a>(
     k: usize,
 ) -> bool
     requires { ⌜ (v < most-nodes) × (k < most-nodes) × (goal < most-nodes) × Into (rows (now fits)) goal (whole (now into)) ⌝ }
-    ensures { λ r. ⌜ (r ≡ true → (l : List ℕ) → Next (rows (now (succ .entry))) (rows (now (fits .entry))) goal (whole (now (visited .entry))) (whole (now (after .entry))) v l → ⊥) ⌝ }
+    ensures { λ r. ⌜ (r ≡ true → (l : List ℕ) → GoesOn (rows (now (succ .entry))) (rows (now (fits .entry))) goal (whole (now (visited .entry))) (whole (now (after .entry))) v l → ⊥) ⌝ }
 {
     if !branches(succ, visited, v) {
         return false;

@@ -1,7 +1,7 @@
 -- The difference of two numbers as a signed number: its range, and what its sign says.
 -- Assumes nothing.
 use mathlib.Core.Bool.{true, false}
-use mathlib.Core.Logic.{_⊎_, inl, inr, ⊎-elim}
+use mathlib.Core.Logic.{⊎-elim}
 use mathlib.Core.Path.{_≡_, sym, ap, _∙_}
 use Prim.Native.Nat.{ℕ, zero, suc, _-_, _<_, _≤_, _^_}
 use native.Mathlib.Omega.{arith}
@@ -12,7 +12,7 @@ use borrow.Author.Tests.{lt-ltb, le-ltb, ltb-true, ltb-false}
 use mir.Syntax.{w64}
 use mir.Val.{SFits, toZ, ofZ}
 use mir.ValLaws.{toZ-ofZ, toZ-pos}
-use Rattle.graph.proofs.Splits.{lt-or-ge, tri}
+use Rattle.graph.proofs.Splits.{lt-or-ge}
 
 diff-lt : (a b : ℕ) → a < b → pos a -ℤ pos b ≡ negsuc (b - suc a)
 diff-lt a zero h = absurd (omega arith)
@@ -40,21 +40,18 @@ cast-diff-fits a b ha hb = rw (cast-diff a b ha hb) (diff-fits a b ha hb)
 pub cast-diff-back : (a b : ℕ) → a < 2 ^ 26 → b < 2 ^ 26 → toZ w64 (ofZ w64 (toZ w64 a -ℤ toZ w64 b)) ≡ pos a -ℤ pos b
 cast-diff-back a b ha hb = toZ-ofZ w64 _ (cast-diff-fits a b ha hb) ∙ cast-diff a b ha hb
 
-pos-lt : (a b : ℕ) → ltZ (pos 0) (pos a -ℤ pos b) ≡ ltb b a
-pos-lt a b = go (tri a b)
-  where
-    go : (a < b) ⊎ ((a ≡ b) ⊎ (b < a)) → ltZ (pos 0) (pos a -ℤ pos b) ≡ ltb b a
-    go (inl h) = ap (λ (z : ℤ). ltZ (pos 0) z) (diff-lt a b h) ∙ sym (le-ltb b a (omega arith))
-    go (inr (inl e)) = ap (λ (z : ℤ). ltZ (pos 0) z) (diff-ge a b (omega arith)) ∙ le-ltb 0 (a - b) (omega arith) ∙ sym (le-ltb b a (omega arith))
-    go (inr (inr h)) = ap (λ (z : ℤ). ltZ (pos 0) z) (diff-ge a b (omega arith)) ∙ lt-ltb 0 (a - b) (omega arith) ∙ sym (lt-ltb b a h)
+neg-lt : (a b : ℕ) → ltZ (pos a -ℤ pos b) (pos 0) ≡ ltb a b
+neg-lt a b =
+    ⊎-elim (λ h. ap (λ (z : ℤ). ltZ z (pos 0)) (diff-lt a b h) ∙ sym (lt-ltb a b h))
+    (λ h. ap (λ (z : ℤ). ltZ z (pos 0)) (diff-ge a b h) ∙ le-ltb (a - b) 0 (omega arith) ∙ sym (le-ltb a b h)) (lt-or-ge a b)
 
--- what the test `0 < d` says of a signed d that is the difference of two small numbers
+-- what the test `d < 0` says of a signed d that is the difference of two small numbers
 module _ (a b : ℕ) (ha : a < 2 ^ 26) (hb : b < 2 ^ 26) (z : ℤ) (e : z ≡ pos a -ℤ pos b) where
-  bits : toZ w64 (ofZ w64 z) ≡ pos a -ℤ pos b
-  bits = ap (λ (y : ℤ). toZ w64 (ofZ w64 y)) e ∙ toZ-ofZ w64 (pos a -ℤ pos b) (diff-fits a b ha hb)
+  sign : ltZ (toZ w64 (ofZ w64 z)) (pos 0) ≡ ltb a b
+  sign = ap (λ (y : ℤ). ltZ (toZ w64 (ofZ w64 y)) (pos 0)) e ∙ ap (λ (y : ℤ). ltZ y (pos 0)) (toZ-ofZ w64 (pos a -ℤ pos b) (diff-fits a b ha hb)) ∙ neg-lt a b
 
-  pub pos-taken : ltZ (pos 0) (toZ w64 (ofZ w64 z)) ≡ true → b < a
-  pos-taken h = ltb-true b a (sym (pos-lt a b) ∙ ap (λ (y : ℤ). ltZ (pos 0) y) (sym bits) ∙ h)
+  pub negative : ltZ (toZ w64 (ofZ w64 z)) (pos 0) ≡ true → a < b
+  negative h = ltb-true a b (sym sign ∙ h)
 
-  pub pos-left : ltZ (pos 0) (toZ w64 (ofZ w64 z)) ≡ false → a ≤ b
-  pos-left h = ltb-false b a (sym (pos-lt a b) ∙ ap (λ (y : ℤ). ltZ (pos 0) y) (sym bits) ∙ h)
+  pub not-negative : ltZ (toZ w64 (ofZ w64 z)) (pos 0) ≡ false → b ≤ a
+  not-negative h = ltb-false a b (sym sign ∙ h)

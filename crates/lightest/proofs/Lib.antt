@@ -4,8 +4,7 @@ pub mod Weights
 pub mod Fore
 pub mod Grown
 pub mod Residues
-pub mod Filled
+pub mod Bounding
 pub mod Tried
 pub mod Listed
-pub mod Whole
 pub mod Flags

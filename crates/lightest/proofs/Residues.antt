@@ -3,21 +3,18 @@
 use mathlib.Core.Bool.{Bool, true, false}
 use mathlib.Core.List.{List}
 use mathlib.Core.Logic.{_⊎_, ⊎-elim, _≢_}
-use mathlib.Core.Path.{_≡_, refl, sym, ap, _∙_}
-use Prim.Native.Nat.{ℕ, zero, suc, _+_, _<_, _≤_}
+use mathlib.Core.Path.{_≡_, refl, sym, ap, subst, _∙_}
+use Prim.Native.Nat.{ℕ, _+_, _-_, _<_, _≤_}
 use native.Mathlib.Omega.{arith}
 use lib.ListN.{length, getD, set, length-set, replicate}
 use lib.Seq.{getD-set-same}
 use borrow.Author.Count.{below-more}
-use Rattle.lightest.specs.Search.{Unspent}
+use Rattle.route.specs.declared.EdgeRoute.{EdgeRoute}
+use Rattle.lightest.specs.Search.{Fair, Addable, Missed, Unspent, Tightest}
 use Rattle.graph.specs.Limits.{most-edges}
-use Rattle.graph.proofs.Splits.{true-false, lt-or-ge}
+use Rattle.graph.proofs.Splits.{true-false}
 use Rattle.route.proofs.Ways.{set-val, at-same}
-
-zeros : (n k : ℕ) → _≡_ {A = ℕ} (getD (replicate n 0) k 0) 0
-zeros zero k = refl
-zeros (suc n) zero = refl
-zeros (suc n) (suc k) = zeros n k
+use Rattle.lightest.proofs.Weights.{replicate-at}
 
 -- ---- what is unspent, from the first e weights
 
@@ -29,10 +26,20 @@ pub record Spared (ws : List ℕ) (s : List Bool) (l : List ℕ) (e : ℕ) : Typ
 
 module _ (ws : List ℕ) (s : List Bool) where
   pub spared-none : Spared ws s (replicate most-edges 0) 0
-  spared-none = record { long = refl; none = λ k h. zeros most-edges k; low = λ k. omega (arith, zeros most-edges k); full = λ k h. absurd (omega arith) }
+  spared-none = record {
+    long = refl;
+    none = λ k h. replicate-at 0 most-edges k;
+    low = λ k. omega (arith, replicate-at {A = ℕ} 0 most-edges k);
+    full = λ k h. absurd (omega arith);
+  }
 
   pub spared-has : (l : List ℕ) (e : ℕ) → Spared ws s l e → getD s e false ≡ true → Spared ws s l (e + 1)
-  spared-has l e u f = record { long = u .long; none = u .none; low = u .low; full = below-more (λ k. getD s k false ≡ false → getD l k 0 ≡ getD ws k 0) e (u .full) (λ h. absurd (true-false f h)) }
+  spared-has l e u f = record {
+    long = u .long;
+    none = u .none;
+    low = u .low;
+    full = below-more (λ k. getD s k false ≡ false → getD l k 0 ≡ getD ws k 0) e (u .full) (λ h. absurd (true-false f h));
+  }
 
   pub spared-out : (l : List ℕ) (e : ℕ) → Spared ws s l e → e < most-edges → getD s e false ≡ false → Spared ws s (set l e (getD ws e 0)) (e + 1)
   spared-out l e u h f = record {
@@ -58,22 +65,47 @@ pub record Taken (es : List ℕ) (a : ℕ) (l₀ l : List ℕ) (i : ℕ) : Type 
 pub taken-none : (es : List ℕ) (a : ℕ) (l : List ℕ) → length l ≡ most-edges → Taken es a l l 0
 taken-none es a l h = record { long = h; down = λ e. omega arith; less = λ k lt. absurd (omega arith) }
 
-pub taken-more : (es : List ℕ) (a : ℕ) (l₀ l : List ℕ) (i e x : ℕ) → Taken es a l₀ l i → e ≡ getD es i 0 → e < most-edges → x ≤ getD l e 0 → (a ≤ getD l e 0 → x + a ≤ getD l e 0) → (getD l e 0 < a → x ≡ 0) → Taken es a l₀ (set l e x) (i + 1)
-taken-more es a l₀ l i e x t at h le big small = record {
+-- edge e is the next, and x what is left of it
+pub taken-more : {es : List ℕ} {a : ℕ} {l₀ l : List ℕ} {i e x : ℕ} → Taken es a l₀ l i → e ≡ getD es i 0 → e < most-edges → x ≡ getD l e 0 - a
+    → Taken es a l₀ (set l e x) (i + 1)
+taken-more {es} {a} {l₀} {l} {i} {e} {x} t at h q = record {
   long = length-set l e x ∙ t .long;
   down = λ k. omega (arith, low k, t .down k);
-  less = below-more (λ k. a ≤ getD l₀ (getD es k 0) 0 → getD (set l e x) (getD es k 0) 0 + a ≤ getD l₀ (getD es k 0) 0) i (λ k lt q. omega (arith, low (getD es k 0), t .less k lt q)) here;
+  less = below-more (λ k. a ≤ getD l₀ (getD es k 0) 0 → getD (set l e x) (getD es k 0) 0 + a ≤ getD l₀ (getD es k 0) 0) i
+      (λ k lt u. omega (arith, low (getD es k 0), t .less k lt u)) here;
 }
   where
     low : (k : ℕ) → getD (set l e x) k 0 ≤ getD l k 0
     low k = ⊎-elim (λ p. omega (arith, p .1, at-same l (p .0))) (λ p. omega (arith, p .1)) (set-val l e x k (omega (arith, t .long)))
 
     here : a ≤ getD l₀ (getD es i 0) 0 → getD (set l e x) (getD es i 0) 0 + a ≤ getD l₀ (getD es i 0) 0
-    here q =
+    here u =
         let same : getD (set l e x) (getD es i 0) 0 ≡ x = at-same (set l e x) (sym at) ∙ getD-set-same l e x 0 (omega (arith, t .long)) in
-        let old = at-same l at in
-        ⊎-elim (λ c. omega (arith, same, small c)) (λ c. omega (arith, same, big c, old, t .down (getD es i 0))) (lt-or-ge (getD l e 0) a)
+        omega (arith, same, at-same l at, t .down (getD es i 0))
 
--- the least of the first i
-pub under-more : (es res : List ℕ) (a a′ i e : ℕ) → e ≡ getD es i 0 → a′ ≤ a → a′ ≤ getD res e 0 → ((k : ℕ) → k < i → a ≤ getD res (getD es k 0) 0) → (k : ℕ) → k < i + 1 → a′ ≤ getD res (getD es k 0) 0
-under-more es res a a′ i e at le here f = below-more (λ k. a′ ≤ getD res (getD es k 0) 0) i (λ k h. omega (arith, f k h)) (omega (arith, here, at-same res at))
+-- ---- of which edge of a route the least is left
+
+pub tightest-one : (es left : List ℕ) (e : ℕ) → e ≡ getD es 0 0 → Tightest (record { edges = es; len = 1 }) left e
+tightest-one es left e at = record {
+  on = (0, omega arith, sym at);
+  least = λ k h. let z : k ≡ 0 = omega arith in omega (arith, at-same left at, ap (λ (j : ℕ). getD left (getD es j 0) 0) z);
+}
+
+-- of f, the next edge, and e, the one so far
+pub tightest-more : (es left : List ℕ) (i e f g : ℕ) → f ≡ getD es i 0 → Tightest (record { edges = es; len = i }) left e
+    → (g ≡ f) ⊎ (g ≡ e) → getD left g 0 ≤ getD left f 0 → getD left g 0 ≤ getD left e 0 → Tightest (record { edges = es; len = i + 1 }) left g
+tightest-more es left i e f g at t which lf le = record {
+  on = ⊎-elim (λ (q : g ≡ f). (i, omega arith, sym at ∙ sym q)) (λ q. let k = t .on in (k .0, omega (arith, k .1), k .2 ∙ sym q)) which;
+  least = below-more (λ k. getD left g 0 ≤ getD left (getD es k 0) 0) i (λ k h. omega (arith, t .least k h, le)) (omega (arith, lf, at-same left at));
+}
+
+pub tightest-some : (r : EdgeRoute) (left : List ℕ) (e : ℕ) → Tightest r left e → ((k : ℕ) → k < r .len → 1 ≤ getD left (getD (r .edges) k 0) 0)
+    → 1 ≤ getD left e 0
+tightest-some r left e t f = omega (arith, f (t .on .0) (t .on .1), at-same left (t .on .2))
+
+pub tightest-below : (r : EdgeRoute) (left : List ℕ) (e : ℕ) → Tightest r left e → Fair r → e < most-edges
+tightest-below r left e t f = omega (arith, f .below (t .on .0) (t .on .1), t .on .2)
+
+pub tightest-next : {ws : List ℕ} {P : List Bool → Type 0} {s : List Bool} (r : EdgeRoute) (left : List ℕ) (e : ℕ) → Tightest r left e → Missed ws P s r
+    → Addable ws s e
+tightest-next {ws = ws} {s = s} r left e t n = subst (Addable ws s) (t .on .2) (n .edge (t .on .0) (t .on .1))

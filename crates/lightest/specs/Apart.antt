@@ -7,7 +7,7 @@ use mathlib.Core.Path.{_≡_}
 use Prim.Native.Nat.{ℕ, _<_, _≤_}
 use lib.ListN.{length, getD}
 use Rattle.graph.specs.Limits.{most-nodes, most-orders}
-use Rattle.route.specs.Way.{Linked, Net}
+use Rattle.route.specs.Way.{EdgeLists, Net}
 use Rattle.walked.specs.Unordered.{Parts}
 
 -- without the edges of t, every route from the first node of a pair to its second orders them
@@ -15,10 +15,10 @@ abbrev pub Apart : List ℕ → List ℕ → List ℕ → List ℕ → List ℕ 
 Apart from to fits us vs t = (i : ℕ) → i < length us → Parts from to fits (getD us i 0) (getD vs i 0) t
 
 -- a graph with its edges linked both ways and weights of at least 1, and pairs of different nodes
-pub record Known (from to ins on ws us vs : List ℕ) : Type 0 where
+pub record Posed (from to ins on ws us vs : List ℕ) : Type 0 where
   pub net : Net from to
-  pub into : Linked to ins 0
-  pub onward : Linked from on 0
+  pub into : EdgeLists to ins 0
+  pub onward : EdgeLists from on 0
   pub weights : length ws ≡ length from
   pub some : (e : ℕ) → e < length ws → 1 ≤ getD ws e 0
   pub orders : length us ≤ most-orders

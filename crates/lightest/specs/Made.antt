@@ -1,26 +1,19 @@
--- Cuts with their weight, what the values of the code say of them, and the lighter of two answers.
+-- Cuts with their weight, and what the values of the code say of them.
 -- Assumes nothing.
-use mathlib.Core.Bool.{Bool, true}
+use mathlib.Core.Bool.{Bool}
 use mathlib.Core.List.{List, [], _∷_}
-use mathlib.Core.Logic.{_⊎_}
 use mathlib.Core.Path.{_≡_}
-use Prim.Native.Nat.{ℕ, zero, suc, _<_, _≤_}
+use Prim.Native.Nat.{ℕ, zero, suc, _<_}
 use Rattle.flags.specs.Flag.{flag}
 use Rattle.sets.specs.Whole.{whole}
 use Rattle.graph.specs.Limits.{most-edges}
 use Rattle.lightest.specs.declared.Cut as Value
-use Rattle.lightest.specs.declared.Pick as Weighed
 use Rattle.lightest.specs.Sets.{weigh, Edges}
 
 -- a set of edges, a flag for each number, and its weight
 pub record Cut : Type 0 where
   pub chosen : List Bool
   pub weight : ℕ
-
--- a cut, or none where found is false
-pub record Pick : Type 0 where
-  pub found : Bool
-  pub cut : Cut
 
 -- the flags k, k + 1, .. of a number, n of them
 unfoldable pub flagsFrom : ℕ → ℕ → ℕ → List Bool
@@ -43,10 +36,6 @@ cutBy ws words = cutAt words (weigh ws (edgesOf words))
 abbrev pub cutOf : Value.Cut → Cut
 cutOf c = cutAt (c .chosen) (c .weight)
 
--- the answer that a value gives, with its edges in the words beside it
-abbrev pub pickOf : Weighed.Pick → List ℕ → Pick
-pickOf p words = record { found = p .found; cut = cutAt words (p .weight) }
-
 -- "exact because weights are below 2^24": 2^26 with 1,024 edges, which weigh at most 67,107,840
 abbrev pub most-weight : ℕ
 most-weight = 67108864
@@ -56,7 +45,3 @@ pub record Made (ws : List ℕ) (c : Cut) : Type 0 where
   pub edges : Edges ws (c .chosen)
   pub sum : weigh ws (c .chosen) ≡ c .weight
   pub small : c .weight < most-weight
-
--- r is the lighter of a and b, a where they weigh the same; an answer that found none loses
-abbrev pub Lighter : Weighed.Pick → Weighed.Pick → Weighed.Pick → Type 0
-Lighter a b r = ((r ≡ a) × (a .found ≡ true) × (b .found ≡ true → a .weight ≤ b .weight)) ⊎ ((r ≡ b) × (a .found ≡ true → (b .found ≡ true) × (b .weight < a .weight)))

@@ -5,7 +5,7 @@ ghost use Prim.Native.Nat.{_+_, _<_};
 ghost use lib.ListN.{set, replicate};
 ghost use lib.IntN.{pos, _-ℤ_};
 ghost use Rattle.graph.specs.Limits.{most-edges};
-ghost use Rattle.lightest.specs.Made.{edgesOf, most-weight, Lighter};
+ghost use Rattle.lightest.specs.Made.{edgesOf, most-weight};
 use graph::Graph;
 use sets::wide::WideSet;
 use sets::wide::has;
@@ -18,12 +18,6 @@ pub mod search;
 // A set of edges and its weight.
 pub struct Cut {
     pub chosen: WideSet,
-    pub weight: u32,
-}
-
-// The weight of a cut, or none where found is false.
-pub struct Pick {
-    pub found: bool,
     pub weight: u32,
 }
 
@@ -68,29 +62,10 @@ impl Cut {
     }
 }
 
-impl Pick {
-    pub fn heavier_by(self, other: Pick) -> i64
-        requires { ⌜ (self .weight < most-weight) × (other .weight < most-weight) ⌝ }
-        ensures { λ r. ⌜ r ≡ pos (self .weight) -ℤ pos (other .weight) ⌝ }
-    {
-        (self.weight as i64) - (other.weight as i64)
-    }
-
-    // The lighter of two; self where they are as heavy.
-    pub fn lighter(self, other: Pick) -> Pick
-        requires { ⌜ (self .weight < most-weight) × (other .weight < most-weight) ⌝ }
-        ensures { λ r. ⌜ Lighter self other r ⌝ }
-    {
-        if !self.found {
-            return other;
-        }
-        if !other.found {
-            return self;
-        }
-        let d = self.heavier_by(other);
-        if 0 < d {
-            return other;
-        }
-        self
-    }
+// How much more the first of two cuts weighs than the second: negative where it is lighter.
+pub fn heavier_by(weight: u32, other: u32) -> i64
+    requires { ⌜ (weight < most-weight) × (other < most-weight) ⌝ }
+    ensures { λ r. ⌜ r ≡ pos weight -ℤ pos other ⌝ }
+{
+    (weight as i64) - (other as i64)
 }

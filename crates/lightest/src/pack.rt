@@ -7,10 +7,10 @@ ghost use lib.ListN.{length, getD};
 ghost use Rattle.graph.specs.Limits.{most-edges};
 ghost use Rattle.sets.specs.Whole.{rows};
 ghost use Rattle.lightest.specs.Made.{Made, cutBy, edgesOf, most-weight};
-ghost use Rattle.lightest.specs.Apart.{Apart, Known};
-ghost use Rattle.lightest.specs.Search.{Fair, Unspent, Smallest, Reduced, Bounded};
+ghost use Rattle.lightest.specs.Apart.{Apart, Posed};
+ghost use Rattle.lightest.specs.Search.{Fair, Unspent, Tightest, Reduced, Bounded};
 use graph::Graph;
-use route::Route;
+use route::EdgeRoute;
 use route::wide;
 use sets::wide::WideSet;
 use sets::wide::has;
@@ -23,7 +23,7 @@ pub struct Residue {
 
 // A lower bound: routes that must be met, with amounts. The first of them, the sum of the amounts, and what is left of each weight.
 pub struct Packing {
-    pub route: Route,
+    pub route: EdgeRoute,
     pub left: [u16; Graph::EDGES],
     pub sum: u32,
 }
@@ -61,21 +61,24 @@ fn unspent(ws: &[u16], chosen: &WideSet) -> Residue
     r
 }
 
-// The least that is left of an edge of the route.
-fn smallest(edges: &[u16; Graph::NODES], n: usize, left: &[u16; Graph::EDGES]) -> u16
-    requires { ⌜ Fair (record { edges = now edges; len = n }) ⌝ }
-    ensures { λ r. ⌜ Smallest (record { edges = now (edges .entry); len = n }) (now (left .entry)) r ⌝ }
+// An edge of the route of which the least is left.
+pub fn tightest(edges: &[u16; Graph::NODES], n: usize, left: &[u16; Graph::EDGES]) -> usize
+    requires { ⌜ (0 < n) × Fair (record { edges = now edges; len = n }) ⌝ }
+    ensures { λ r. ⌜ Tightest (record { edges = now (edges .entry); len = n }) (now (left .entry)) r ⌝ }
 {
-    let mut a: u16 = 65535;
-    let mut i = 0;
+    let mut e = edge_at(edges, n, 0);
+    let mut a = left[e];
+    let mut i = 1;
     while i < n {
-        let x = left[edge_at(edges, n, i)];
+        let f = edge_at(edges, n, i);
+        let x = left[f];
         if x < a {
+            e = f;
             a = x;
         }
         i += 1;
     }
-    a
+    e
 }
 
 // What is left when the amount a goes along the route.
@@ -96,7 +99,8 @@ fn reduce(edges: &[u16; Graph::NODES], n: usize, left: &mut [u16; Graph::EDGES],
     }
 }
 
-// Packs unordered routes of the pairs that the chosen edges miss, each with the most that its edges have left, until they sum to more than the allowance or no route is left.
+// Packs unordered routes of the pairs that the chosen edges miss, each with the most that its edges have left, until they sum to the allowance
+// or no route is left.
 pub fn bound(
     from: &[u16],
     to: &[u16],
@@ -110,7 +114,7 @@ pub fn bound(
     allowance: u32,
     kept: &mut Sets,
 ) -> Packing
-    requires { ⌜ Known (now from) (now to) (now ins) (now on) (now ws) (now us) (now vs) ⌝ }
+    requires { ⌜ Posed (now from) (now to) (now ins) (now on) (now ws) (now us) (now vs) ⌝ }
     requires { ⌜ (Made (now ws) (cutBy (now ws) (now chosen))) × (allowance < most-weight) ⌝ }
     ensures { λ r. ⌜ Bounded (now (ws .entry)) (Apart (now (from .entry)) (now (to .entry)) (rows (now (fits .entry))) (now (us .entry)) (now (vs .entry))) (cutBy (now (ws .entry)) (now (chosen .entry))) r ⌝ }
 {
@@ -133,12 +137,12 @@ pub fn bound(
                 first = way;
                 len = k;
             }
-            let q = smallest(&way, k, &left);
+            let q = left[tightest(&way, k, &left)];
             reduce(&way, k, &mut left, q);
             sum += wider(q);
-            if allowance < sum {
+            if allowance <= sum {
                 return Packing {
-                    route: Route { edges: first, len },
+                    route: EdgeRoute { edges: first, len },
                     left,
                     sum,
                 };
@@ -146,7 +150,7 @@ pub fn bound(
         }
     }
     Packing {
-        route: Route { edges: first, len },
+        route: EdgeRoute { edges: first, len },
         left,
         sum,
     }

@@ -1,27 +1,27 @@
-// The search: a lightest cut by branching on a route, then the list of the chosen one, edge by edge.
-ghost use mathlib.Core.Bool.{false};
+// The search: some cut quickly, a lightest one by branching on a route, then the list of the chosen one, edge by edge.
 ghost use mathlib.Core.Path.{_≡_};
 ghost use Prim.Native.Nat.{_+_, _<_};
 ghost use Rattle.sets.specs.Whole.{whole, rows};
-ghost use Rattle.lightest.specs.Made.{Made, cutAt, cutBy, cutOf, edgesOf, pickOf, most-weight};
+ghost use Rattle.lightest.specs.Made.{Made, cutAt, cutBy, cutOf, edgesOf, most-weight};
 ghost use Rattle.lightest.specs.Sets.{Least};
-ghost use Rattle.lightest.specs.Apart.{Apart, Known};
+ghost use Rattle.lightest.specs.Apart.{Apart, Posed};
 ghost use Rattle.lightest.specs.Search.{Fair, Marks, Levelled, Picked};
 use crate::Cut;
-use crate::Pick;
+use crate::heavier_by;
 use crate::pack::bound;
 use crate::pack::edge_at;
+use crate::pack::tightest;
 use crate::pack::wider;
 use graph::Graph;
-use route::Route;
+use route::EdgeRoute;
 use sets::wide::WideSet;
 use sets::wide::has;
 use sets::wide::none;
 use sets::wide::put_in;
 use words::Sets;
 
-// No cut weighs more than all the edges can.
-const MOST: u32 = Graph::EDGES as u32 * 65535;
+// Every cut weighs less.
+const ABOVE: u32 = Graph::EDGES as u32 * 65535 + 1;
 
 // What a level of the search keeps of a bound: the edges of the route to branch on, how many they are, and the sum.
 pub struct Level {
@@ -31,7 +31,7 @@ pub struct Level {
 }
 
 // The edges of a route, as a set.
-fn edges_of(route: Route) -> WideSet
+fn edges_of(route: EdgeRoute) -> WideSet
     requires { ⌜ Fair route ⌝ }
     ensures { λ r. ⌜ Marks route (route .len) (whole r) ⌝ }
 {
@@ -58,7 +58,7 @@ fn level_of(
     allowance: u32,
     kept: &mut Sets,
 ) -> Level
-    requires { ⌜ Known (now from) (now to) (now ins) (now on) (now ws) (now us) (now vs) ⌝ }
+    requires { ⌜ Posed (now from) (now to) (now ins) (now on) (now ws) (now us) (now vs) ⌝ }
     requires { ⌜ (Made (now ws) (cutBy (now ws) (now chosen))) × (allowance < most-weight) ⌝ }
     ensures { λ r. ⌜ Levelled (now (ws .entry)) (Apart (now (from .entry)) (now (to .entry)) (rows (now (fits .entry))) (now (us .entry)) (now (vs .entry))) (cutBy (now (ws .entry)) (now (chosen .entry))) (whole (r .route)) (r .len) (r .sum) ⌝ }
 {
@@ -71,9 +71,9 @@ fn level_of(
     }
 }
 
-// The lightest cut that has the chosen edges and weighs at most the allowance more than they do, or none. Its edges are written to `best`,
-// which else stays as it was. The chosen edges are lent, since a cut handed on by value would stand twice on each level's stack: in its local
-// and in the call.
+// A lightest cut that has the chosen edges and weighs less than the allowance more than they do: its weight is the answer, and its edges are
+// written to `best`. Where there is none, the answer is where the allowance ends, and `best` stays as it was. The chosen edges are lent, since
+// a cut handed on by value would stand twice on each level's stack: in its local and in the call.
 fn least(
     from: &[u16],
     to: &[u16],
@@ -88,46 +88,38 @@ fn least(
     allowance: u32,
     kept: &mut Sets,
     best: &mut WideSet,
-) -> Pick
-    requires { ⌜ Known (now from) (now to) (now ins) (now on) (now ws) (now us) (now vs) ⌝ }
+) -> u32
+    requires { ⌜ Posed (now from) (now to) (now ins) (now on) (now ws) (now us) (now vs) ⌝ }
     requires { ⌜ (Made (now ws) (cutAt (now chosen) weight)) × (weight + allowance < most-weight) ⌝ }
-    ensures { λ r. ⌜ Picked (now (ws .entry)) (Apart (now (from .entry)) (now (to .entry)) (rows (now (fits .entry))) (now (us .entry)) (now (vs .entry))) (cutAt (now (chosen .entry)) weight) allowance (pickOf r (now (best .exit))) ⌝ }
-    ensures { λ r. ⌜ (r .found ≡ false → now (best .exit) ≡ now (best .entry)) ⌝ }
+    ensures { λ r. ⌜ Picked (now (ws .entry)) (Apart (now (from .entry)) (now (to .entry)) (rows (now (fits .entry))) (now (us .entry)) (now (vs .entry))) (cutAt (now (chosen .entry)) weight) (weight + allowance) (cutAt (now (best .exit)) r) ⌝ }
+    ensures { λ r. ⌜ (r ≡ weight + allowance → now (best .exit) ≡ now (best .entry)) ⌝ }
 {
-    let mut found = Pick {
-        found: false,
-        weight,
-    };
+    let mut found = weight + allowance;
     let b = level_of(from, to, ins, on, fits, ws, us, vs, chosen, allowance, kept);
     let sum = b.sum;
-    if allowance < sum {
+    if allowance <= sum {
         return found;
     }
     if b.len == 0 {
         *best = *chosen;
-        return Pick {
-            found: true,
-            weight,
-        };
+        return weight;
     }
     let n = ws.len();
-    let mut rest = allowance;
     for e in 0..n {
         if has(&b.route, e) {
             let w = wider(ws[e]);
-            if w <= rest {
+            if weight + w < found {
                 let next = Cut::of(chosen, weight).with_edge(e, w);
                 let t = &next.chosen;
                 let h = next.weight;
-                let more = rest - w;
+                let more = found - h;
                 let c = least(from, to, ins, on, fits, ws, us, vs, t, h, more, kept, best);
-                if c.found {
-                    found = c.lighter(found);
-                    let spent = found.weight - weight;
-                    if spent == sum {
+                let d = heavier_by(c, found);
+                if d < 0 {
+                    found = c;
+                    if found == weight + sum {
                         return found;
                     }
-                    rest = spent - 1;
                 }
             }
         }
@@ -135,7 +127,37 @@ fn least(
     found
 }
 
-// The chosen cut: first a lightest one, then its list, edge by edge: an earlier edge is taken where some cut as light goes on from it.
+// A cut, found quickly: of a route that the edges so far miss it takes the edge of which the whole packing leaves the least. An allowance of 1
+// ends a bound with its first route.
+fn first_cut(
+    from: &[u16],
+    to: &[u16],
+    ins: &[u16; Graph::NODES + Graph::EDGES],
+    on: &[u16; Graph::NODES + Graph::EDGES],
+    fits: &Sets,
+    ws: &[u16],
+    us: &[u16],
+    vs: &[u16],
+    left: &[u16; Graph::EDGES],
+    kept: &mut Sets,
+) -> Cut
+    requires { ⌜ Posed (now from) (now to) (now ins) (now on) (now ws) (now us) (now vs) ⌝ }
+    ensures { λ r. ⌜ Made (now (ws .entry)) (cutOf r) × Apart (now (from .entry)) (now (to .entry)) (rows (now (fits .entry))) (now (us .entry)) (now (vs .entry)) (edgesOf (r .chosen)) ⌝ }
+{
+    let mut c = Cut::empty();
+    loop {
+        let b = bound(from, to, ins, on, fits, ws, us, vs, &c.chosen, 1, kept);
+        let n = b.route.len;
+        if n == 0 {
+            return c;
+        }
+        let e = tightest(&b.route.edges, n, left);
+        c = c.with_edge(e, wider(ws[e]));
+    }
+}
+
+// The chosen cut: first some cut, then a lightest one, then its list, edge by edge: an earlier edge is taken where some cut as light goes on
+// from it.
 pub fn best(
     from: &[u16],
     to: &[u16],
@@ -147,17 +169,17 @@ pub fn best(
     vs: &[u16],
     kept: &mut Sets,
 ) -> Cut
-    requires { ⌜ Known (now from) (now to) (now ins) (now on) (now ws) (now us) (now vs) ⌝ }
+    requires { ⌜ Posed (now from) (now to) (now ins) (now on) (now ws) (now us) (now vs) ⌝ }
     ensures { λ r. ⌜ Made (now (ws .entry)) (cutOf r) × Least (now (ws .entry)) (Apart (now (from .entry)) (now (to .entry)) (rows (now (fits .entry))) (now (us .entry)) (now (vs .entry))) (edgesOf (r .chosen)) ⌝ }
 {
     let mut k = Cut::empty();
-    let mut c = none();
     let s = k.chosen;
-    let h = k.weight;
-    let m = MOST;
-    let lightest = least(from, to, ins, on, fits, ws, us, vs, &s, h, m, kept, &mut c);
-    let weight = lightest.weight;
-    let b = bound(from, to, ins, on, fits, ws, us, vs, &s, weight, kept);
+    let m = ABOVE;
+    let b = bound(from, to, ins, on, fits, ws, us, vs, &s, m, kept);
+    let first = first_cut(from, to, ins, on, fits, ws, us, vs, &b.left, kept);
+    let mut c = first.chosen;
+    let m = first.weight;
+    let weight = least(from, to, ins, on, fits, ws, us, vs, &s, 0, m, kept, &mut c);
     let n = ws.len();
     let mut e = 0;
     while e < n {
@@ -165,15 +187,14 @@ pub fn best(
         if has(&c, e) {
             k = k.with_edge(e, w);
         } else {
-            let rest = weight - k.weight;
-            if w <= rest {
+            if k.weight + w <= weight {
                 if wider(b.left[e]) <= weight - b.sum {
                     let next = k.with_edge(e, w);
                     let t = &next.chosen;
                     let h = next.weight;
-                    let m = rest - w;
+                    let m = weight + 1 - h;
                     let d = least(from, to, ins, on, fits, ws, us, vs, t, h, m, kept, &mut c);
-                    if d.found {
+                    if d <= weight {
                         k = next;
                     }
                 }

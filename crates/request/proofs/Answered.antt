@@ -1,40 +1,45 @@
 -- A file of bytes has exactly one reading: it is accepted exactly when it is the bytes of a proper request, and then that request is read from it.
 -- Assumes nothing.
-use mathlib.Core.List.{List, [], _∷_, map}
+use mathlib.Core.List.{List, [], _∷_}
 use mathlib.Core.Path.{_∙_, _≡_, ap, ap₂, refl, subst, sym}
 use Prim.Native.Nat.{_*_, _+_, ℕ}
 use native.Mathlib.Omega.{arith}
 use lib.ListN.{length, length-map}
 use Rattle.request.specs.declared.Answer.{Answer}
 use Rattle.request.specs.declared.Counts.{Counts}
+use Rattle.request.specs.declared.Mark.the-variants.{Nd, Ed, Ru, Or}
 use Rattle.request.specs.declared.Reading.{Reading}
 use Rattle.request.specs.declared.Reading.the-variants.{Refused, Whole}
-use Rattle.request.specs.Bad.{Bad}
-use Rattle.request.specs.Decode.{countsOfRaw, edgeAt, label-of, nodeAt, orderAt, raw-label, raw-rule, rawOf, rawed, requestOf, rule-of, ruleAt, table, understood}
+use Rattle.graph.specs.Graph.{no-edge}
+use Rattle.request.specs.Bad.{Bad, no-node}
+use Rattle.request.specs.Decode.{countsOfRaw, label-of, raw-label, raw-rule, rawOf, rawed, recordsIn, requestOf, rule-of, understood}
 use Rattle.request.specs.File.{Bytes, Request, bytes}
-use Rattle.request.specs.Layout.{countsIn, endOf}
+use Rattle.request.specs.Layout.{countsIn, endOf, startOf}
 use Rattle.request.specs.Outcome.{Answered}
 use Rattle.request.specs.Proper.{Holds, Proper, countsOf}
 use Rattle.request.specs.Raw.{file}
-use Rattle.request.specs.Tables.{edgesAt, ordersAt, readingOf, rulesAt}
+use Rattle.request.specs.Tables.{readingOf}
 use Rattle.graph.proofs.Unique.{refused-unique}
 use Rattle.request.proofs.Clean.{Narrow, clean-proper, clean-rawed, proper-clean}
 use Rattle.request.proofs.Faults.{Clean, bad-fault}
 use Rattle.request.proofs.Judged.{Judged, judged}
-use Rattle.request.proofs.Laid.{end-unmarked, laid-counts, laid-raw}
+use Rattle.request.proofs.Laid.{laid-counts, laid-raw}
 use Rattle.request.proofs.Ranked.{rank-apart}
-use Rattle.request.proofs.Records.{edge-at, len-edges, len-nodes, len-orders, len-rules, node-at}
+use Rattle.request.proofs.Records.{record-read, records-length}
 use Rattle.request.proofs.Sides.{file-rawed, understood-rawed}
 use Rattle.request.proofs.Unread.{ended-at}
 
 -- ---- bytes to a request and back
 
 counts-rawed : (r : Request) → countsOfRaw (rawed r) ≡ countsOf r
-counts-rawed r = let p = length-map (r .graph .nodes) raw-label in let q = length-map (r .rules) raw-rule in λ i. record { nodes = p i; edges = length (r .graph .edges); rules = q i; orders = length (r .orders) }
+counts-rawed r =
+    let p = length-map (r .graph .nodes) raw-label in
+    let q = length-map (r .rules) raw-rule in
+    λ i. record { nodes = p i; edges = length (r .graph .edges); rules = q i; orders = length (r .orders) }
 
 module _ (s : List ℕ) (r : Request) (e : s ≡ bytes r) where
   pub counts-read : countsIn s ≡ countsOf r
-  counts-read = sym (laid-counts s (rawed r) (69 ∷ 78 ∷ []) (e ∙ file-rawed r) (end-unmarked [])) ∙ counts-rawed r
+  counts-read = sym (laid-counts s (rawed r) (69 ∷ 78 ∷ []) (e ∙ file-rawed r) refl) ∙ counts-rawed r
 
   -- the request is read from its bytes, whether it is proper or not
   pub request-read : requestOf s (countsOf r) ≡ r
@@ -70,16 +75,18 @@ module _ (s : List ℕ) (cs : Counts) (r : Request) (H : Holds s cs r) where
 
 narrow : (s : List ℕ) (cs : Counts) → Bytes s → Narrow (rawOf s cs)
 narrow s cs h = record {
-  addresses = λ i l. rw (node-at s cs i (omega (arith, l, len-nodes s cs))) (h (i * 4 + 3));
-  weights = λ i l. rw (edge-at s cs i (omega (arith, l, len-edges s cs))) (omega (arith, h (edgesAt cs + i * 8 + 6), h (edgesAt cs + i * 8 + 6 + 1)));
+  addresses = λ i l. rw (record-read s cs Nd no-node i (omega (arith, l, records-length s cs Nd))) (h (0 + i * 4 + 3));
+  weights = λ i l.
+      rw (record-read s cs Ed no-edge i (omega (arith, l, records-length s cs Ed)))
+      (omega (arith, h (startOf cs Ed + i * 8 + 6), h (startOf cs Ed + i * 8 + 6 + 1)));
 }
 
 pub counts-lengths : (s : List ℕ) (cs : Counts) → cs ≡ countsOf (requestOf s cs)
 counts-lengths s cs =
-    let p : cs .nodes ≡ length (map label-of (table nodeAt 4 s 0 (cs .nodes))) = sym (length-map (table nodeAt 4 s 0 (cs .nodes)) label-of ∙ len-nodes s cs) in
-    let q : cs .rules ≡ length (map rule-of (table ruleAt 6 s (rulesAt cs) (cs .rules))) = sym (length-map (table ruleAt 6 s (rulesAt cs) (cs .rules)) rule-of ∙ len-rules s cs) in
-    let u : cs .edges ≡ length (table edgeAt 8 s (edgesAt cs) (cs .edges)) = sym (len-edges s cs) in
-    let v : cs .orders ≡ length (table orderAt 6 s (ordersAt cs) (cs .orders)) = sym (len-orders s cs) in
+    let p = sym (length-map (recordsIn s cs Nd) label-of ∙ records-length s cs Nd) in
+    let q = sym (length-map (recordsIn s cs Ru) rule-of ∙ records-length s cs Ru) in
+    let u = sym (records-length s cs Ed) in
+    let v = sym (records-length s cs Or) in
     λ i. record { nodes = p i; edges = u i; rules = q i; orders = v i }
 
 clean-holds : (s : List ℕ) (cs : Counts) → Bytes s → s ≡ file (rawOf s cs) → Clean (rawOf s cs) → Holds s cs (requestOf s cs)

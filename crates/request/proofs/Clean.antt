@@ -1,23 +1,21 @@
 -- Records to which no answer applies are those of a proper request.
 -- Assumes nothing.
 use mathlib.Core.List.{List·Memᴰ, map}
-use mathlib.Core.Logic.{_≢_, inl, inr}
+use mathlib.Core.Logic.{inl, inr}
 use mathlib.Core.Path.{_∙_, _≡_, ap, refl, subst, sym}
 use Prim.Native.Nat.{_+_, _<_, _≤_, ℕ}
 use native.Mathlib.Omega.{arith}
 use lib.ListN.{getD, length, length-map}
-use Rattle.graph.specs.declared.Label.{Label}
 use Rattle.graph.specs.declared.Label.the-variants.{Fence}
 use Rattle.graph.specs.declared.Rule.{Rule}
 use Rattle.graph.specs.declared.Side.{Side}
 use Rattle.graph.specs.declared.Side.the-variants.{Any, Is}
 use Rattle.request.specs.declared.Answer.the-variants.{BadEdge, BadNode, BadOrder, BadRule, NoFenceRules, NoRoom, NoSuchOrder, NotLoose, ShortBuffer, TooMany, Unreadable}
 use Rattle.graph.specs.Graph.{Orderly, Sound, no-edge, order}
-use Rattle.graph.specs.Limits.{most-edges, most-nodes, most-orders, most-rules}
 use Rattle.request.specs.Bad.{Leads, WrongEdge, WrongNode, WrongOrder, WrongRule, first-edge, first-order, first-rule, no-node, no-rule}
 use Rattle.request.specs.Decode.{label-of, raw-label, raw-rule, raw-side, rawed, rule-of, understood}
 use Rattle.request.specs.File.{Request}
-use Rattle.request.specs.Proper.{Addressed, Formed, Proper}
+use Rattle.request.specs.Proper.{Proper}
 use Rattle.request.specs.Raw.{Raw, RawRule}
 use Rattle.graph.proofs.Members.{at-mem, mem-at}
 use Rattle.graph.proofs.Says.{says-and, says-below, says-eq, stable}
@@ -36,6 +34,10 @@ pub record Narrow (w : Raw) : Type 0 where
   pub addresses : (i : ℕ) → i < length (w .nodes) → (getD (w .nodes) i no-node) .address < 256
   pub weights : (i : ℕ) → i < length (w .edges) → (getD (w .edges) i no-edge) .weight < 65536
 
+-- none is beyond the limit
+few : (n most : ℕ) → ((i : ℕ) → i < n → most ≤ i → ⊥) → n ≤ most
+few n most f = let g : most < n → ⊥ = λ h. f most h (omega arith) in omega (arith, g)
+
 module _ (w : Raw) (C : Clean w) where
   edge-right : (i : ℕ) → i < length (w .edges) → WrongEdge (length (w .nodes)) (w .edges) i → ⊥
   edge-right i h b = C BadEdge (first-edge w + i) (i, h, b, refl)
@@ -43,80 +45,58 @@ module _ (w : Raw) (C : Clean w) where
   order-right : (i : ℕ) → i < length (w .orders) → WrongOrder (length (w .nodes)) (w .orders) i → ⊥
   order-right i h b = C BadOrder (first-order w + i) (i, h, b, refl)
 
-  few-nodes : length (w .nodes) ≤ most-nodes
-  few-nodes = let n : most-nodes < length (w .nodes) → ⊥ = λ h. C TooMany (0 + most-nodes) (inl (most-nodes, h, omega arith, refl)) in omega (arith, n)
-
-  few-edges : length (w .edges) ≤ most-edges
-  few-edges = let n : most-edges < length (w .edges) → ⊥ = λ h. C TooMany (first-edge w + most-edges) (inr (inl (most-edges, h, omega arith, refl))) in omega (arith, n)
-
-  few-rules : length (w .rules) ≤ most-rules
-  few-rules = let n : most-rules < length (w .rules) → ⊥ = λ h. C TooMany (first-rule w + most-rules) (inr (inr (inl (most-rules, h, omega arith, refl)))) in omega (arith, n)
-
-  few-orders : length (w .orders) ≤ most-orders
-  few-orders = let n : most-orders < length (w .orders) → ⊥ = λ h. C TooMany (first-order w + most-orders) (inr (inr (inr (most-orders, h, omega arith, refl)))) in omega (arith, n)
-
   -- a rule that is not missing is there
   led : (a b : ℕ) → ((Leads (w .rules) a b → ⊥) → ⊥) → Leads (w .rules) a b
-  led a b n = stable (says-below (length (w .rules)) (λ i h. says-and (says-eq ((getD (w .rules) i no-rule) .left) a) (says-eq ((getD (w .rules) i no-rule) .right) b))) n
+  led a b n =
+      stable (says-below (length (w .rules)) (λ i h.
+      says-and (says-eq ((getD (w .rules) i no-rule) .left) a) (says-eq ((getD (w .rules) i no-rule) .right) b))) n
+
+  leading : {a b : ℕ} {x : Rule} → ((r : RawRule) → r .left ≡ a → r .right ≡ b → x ≡ rule-of r) → Leads (w .rules) a b → List·Memᴰ x (map rule-of (w .rules))
+  leading f (i, h, (p, q)) = map-mem rule-of no-rule (w .rules) i _ h (f (getD (w .rules) i no-rule) p q)
 
   sound : Sound (understood w .graph)
-  sound = record { ends = ends; pairs = pairs }
-    where
-      ends : (i : ℕ) → i < length (w .edges)
-          → ((getD (w .edges) i no-edge) .from < length (map label-of (w .nodes))) × ((getD (w .edges) i no-edge) .to < length (map label-of (w .nodes))) × (1 ≤ (getD (w .edges) i no-edge) .weight)
-      ends i h =
-          let a : length (w .nodes) ≤ (getD (w .edges) i no-edge) .from → ⊥ = λ x. edge-right i h (inl x) in
-          let b : length (w .nodes) ≤ (getD (w .edges) i no-edge) .to → ⊥ = λ x. edge-right i h (inr (inl x)) in
-          let d : (getD (w .edges) i no-edge) .weight ≡ 0 → ⊥ = λ x. edge-right i h (inr (inr (inl x))) in
-          (omega (arith, a, length-map (w .nodes) label-of), omega (arith, b, length-map (w .nodes) label-of), omega (arith, d))
-
-      pairs : (i j : ℕ) → i < length (w .edges) → j < length (w .edges) → (getD (w .edges) i no-edge) .from ≡ (getD (w .edges) j no-edge) .from → (getD (w .edges) i no-edge) .to ≡ (getD (w .edges) j no-edge) .to → i ≡ j
-      pairs i j h k p q =
-          let a : i < j → ⊥ = λ l. edge-right j k (inr (inr (inr (i, l, (p, q))))) in
-          let b : j < i → ⊥ = λ l. edge-right i h (inr (inr (inr (j, l, (sym p, sym q))))) in
-          omega (arith, a, b)
+  sound = record {
+    ends = λ i h.
+        let a : length (w .nodes) ≤ (getD (w .edges) i no-edge) .from → ⊥ = λ x. edge-right i h (inl x) in
+        let b : length (w .nodes) ≤ (getD (w .edges) i no-edge) .to → ⊥ = λ x. edge-right i h (inr (inl x)) in
+        let d : (getD (w .edges) i no-edge) .weight ≡ 0 → ⊥ = λ x. edge-right i h (inr (inr (inl x))) in
+        (omega (arith, a, length-map (w .nodes) label-of), omega (arith, b, length-map (w .nodes) label-of), omega (arith, d));
+    pairs = λ i j h k p q.
+        let a : i < j → ⊥ = λ l. edge-right j k (inr (inr (inr (i, l, (p, q))))) in
+        let b : j < i → ⊥ = λ l. edge-right i h (inr (inr (inr (j, l, (sym p, sym q))))) in
+        omega (arith, a, b);
+  }
 
   orderly : Orderly (length (map label-of (w .nodes))) (w .orders)
-  orderly = record { ends = ends; once = once }
-    where
-      ends : (i : ℕ) → i < length (w .orders)
-          → ((order (w .orders) i) .first < length (map label-of (w .nodes))) × ((order (w .orders) i) .second < length (map label-of (w .nodes))) × ((order (w .orders) i) .first ≢ (order (w .orders) i) .second)
-      ends i h =
-          let a : length (w .nodes) ≤ (order (w .orders) i) .first → ⊥ = λ x. order-right i h (inl x) in
-          let b : length (w .nodes) ≤ (order (w .orders) i) .second → ⊥ = λ x. order-right i h (inr (inl x)) in
-          (omega (arith, a, length-map (w .nodes) label-of), omega (arith, b, length-map (w .nodes) label-of), λ x. order-right i h (inr (inr (inl x))))
-
-      once : (i j : ℕ) → i < length (w .orders) → j < length (w .orders) → (order (w .orders) i) .first ≡ (order (w .orders) j) .first → (order (w .orders) i) .second ≡ (order (w .orders) j) .second → i ≡ j
-      once i j h k p q =
-          let a : i < j → ⊥ = λ l. order-right j k (inr (inr (inr (i, l, (p, q))))) in
-          let b : j < i → ⊥ = λ l. order-right i h (inr (inr (inr (j, l, (sym p, sym q))))) in
-          omega (arith, a, b)
+  orderly = record {
+    ends = λ i h.
+        let a : length (w .nodes) ≤ (order (w .orders) i) .first → ⊥ = λ x. order-right i h (inl x) in
+        let b : length (w .nodes) ≤ (order (w .orders) i) .second → ⊥ = λ x. order-right i h (inr (inl x)) in
+        (omega (arith, a, length-map (w .nodes) label-of), omega (arith, b, length-map (w .nodes) label-of), λ x. order-right i h (inr (inr (inl x))));
+    once = λ i j h k p q.
+        let a : i < j → ⊥ = λ l. order-right j k (inr (inr (inr (i, l, (p, q))))) in
+        let b : j < i → ⊥ = λ l. order-right i h (inr (inr (inr (j, l, (sym p, sym q))))) in
+        omega (arith, a, b);
+  }
 
   pub clean-proper : Narrow w → Proper (understood w)
   clean-proper N = record {
-    few-nodes = rw (length-map (w .nodes) label-of) few-nodes;
-    few-edges = few-edges;
-    few-rules = rw (length-map (w .rules) rule-of) few-rules;
-    few-orders = few-orders;
-    addressed = λ x m. address x (mem-map label-of no-node (w .nodes) m);
+    few-nodes = rw (length-map (w .nodes) label-of) (few _ _ (λ i h l. C TooMany (0 + i) (inl (i, h, l, refl))));
+    few-edges = few _ _ (λ i h l. C TooMany (first-edge w + i) (inr (inl (i, h, l, refl))));
+    few-rules = rw (length-map (w .rules) rule-of) (few _ _ (λ i h l. C TooMany (first-rule w + i) (inr (inr (inl (i, h, l, refl))))));
+    few-orders = few _ _ (λ i h l. C TooMany (first-order w + i) (inr (inr (inr (i, h, l, refl)))));
+    addressed = λ x m. let a = mem-map label-of no-node (w .nodes) m in
+        rw (a .2) (label-addressed (getD (w .nodes) (a .0) no-node) (N .addresses (a .0) (a .1)));
     sound = sound;
     light = N .weights;
-    formed = λ x m. form x (mem-map rule-of no-rule (w .rules) m);
+    formed = λ x m. let a = mem-map rule-of no-rule (w .rules) m in
+        rw (a .2) (rule-formed _ (λ b. C BadRule (first-rule w + a .0) (a .0, a .1, b, refl)));
     orderly = orderly;
-    fences = record { to-fence = to-fence (led 3 2 (λ n. C NoFenceRules 0 (inl n, refl))); from-fence = from-fence (led 2 3 (λ n. C NoFenceRules 0 (inr n, refl))) };
+    fences = record {
+      to-fence = leading (λ r p q. rw (p, q) refl) (led 3 2 (λ n. C NoFenceRules 0 (inl n, refl)));
+      from-fence = leading (λ r p q. rw (p, q) refl) (led 2 3 (λ n. C NoFenceRules 0 (inr n, refl)));
+    };
   }
-    where
-      address : (x : Label) → (i : ℕ) × (i < length (w .nodes)) × (x ≡ label-of (getD (w .nodes) i no-node)) → Addressed x
-      address x (i, h, e) = subst Addressed (sym e) (label-addressed ((getD (w .nodes) i no-node) .kind) ((getD (w .nodes) i no-node) .address) (N .addresses i h))
-
-      form : (x : Rule) → (i : ℕ) × (i < length (w .rules)) × (x ≡ rule-of (getD (w .rules) i no-rule)) → Formed x
-      form x (i, h, e) = subst Formed (sym e) (rule-formed (getD (w .rules) i no-rule) (λ b. C BadRule (first-rule w + i) (i, h, b, refl)))
-
-      to-fence : Leads (w .rules) 3 2 → List·Memᴰ (record { left = Any; right = Is Fence }) (map rule-of (w .rules))
-      to-fence (i, h, (p, q)) = map-mem rule-of no-rule (w .rules) i (record { left = Any; right = Is Fence }) h (rw (p, q) refl)
-
-      from-fence : Leads (w .rules) 2 3 → List·Memᴰ (record { left = Is Fence; right = Any }) (map rule-of (w .rules))
-      from-fence (i, h, (p, q)) = map-mem rule-of no-rule (w .rules) i (record { left = Is Fence; right = Any }) h (rw (p, q) refl)
 
 module _ (r : Request) (P : Proper r) where
   edge-wrong : (i : ℕ) → i < length (r .graph .edges) → WrongEdge (length (r .graph .nodes)) (r .graph .edges) i → ⊥
@@ -126,7 +106,9 @@ module _ (r : Request) (P : Proper r) where
   edge-wrong i h (inr (inr (inr (j, l, (p, q))))) = omega (arith, P .sound .pairs j i (omega arith) h p q)
 
   rule-wrong : (i : ℕ) → i < length (r .rules) → WrongRule (getD (map raw-rule (r .rules)) i no-rule) → ⊥
-  rule-wrong i h b = rule-good (getD (r .rules) i plain) (P .formed (getD (r .rules) i plain) (at-mem plain (r .rules) i h)) (subst WrongRule (mapped-at raw-rule no-rule (r .rules) i plain h) b)
+  rule-wrong i h b =
+      let x = getD (r .rules) i plain in
+      rule-good x (P .formed x (at-mem plain (r .rules) i h)) (subst WrongRule (mapped-at raw-rule no-rule (r .rules) i plain h) b)
 
   order-wrong : (i : ℕ) → i < length (r .orders) → WrongOrder (length (r .graph .nodes)) (r .orders) i → ⊥
   order-wrong i h (inl x) = let e = P .orderly .ends i h in omega (arith, e .0)
@@ -134,9 +116,10 @@ module _ (r : Request) (P : Proper r) where
   order-wrong i h (inr (inr (inl x))) = P .orderly .ends i h .2 x
   order-wrong i h (inr (inr (inr (j, l, (p, q))))) = omega (arith, P .orderly .once j i (omega arith) h p q)
 
-  leads-there : (a b : Side) → (i : ℕ) × (i < length (r .rules)) × (record { left = a; right = b } ≡ getD (r .rules) i plain) → Leads (map raw-rule (r .rules)) ((raw-side a) .kind) ((raw-side b) .kind)
+  leads-there : (a b : Side) → (i : ℕ) × (i < length (r .rules)) × (record { left = a; right = b } ≡ getD (r .rules) i plain)
+      → Leads (map raw-rule (r .rules)) ((raw-side a) .kind) ((raw-side b) .kind)
   leads-there a b (i, h, e) =
-      let x : getD (map raw-rule (r .rules)) i no-rule ≡ raw-rule (record { left = a; right = b }) = mapped-at raw-rule no-rule (r .rules) i plain h ∙ ap raw-rule (sym e) in
+      let x = mapped-at raw-rule no-rule (r .rules) i plain h ∙ ap raw-rule (sym e) in
       (i, rw (length-map (r .rules) raw-rule) h, (ap (λ (y : RawRule). y .left) x, ap (λ (y : RawRule). y .right) x))
 
   pub proper-clean : Clean (rawed r)
@@ -146,7 +129,8 @@ module _ (r : Request) (P : Proper r) where
   proper-clean TooMany q (inr (inr (inl (i, h, l, e)))) = omega (arith, P .few-rules, length-map (r .rules) raw-rule)
   proper-clean TooMany q (inr (inr (inr (i, h, l, e)))) = omega (arith, P .few-orders)
   proper-clean BadNode q (i, h, b, e) =
-      label-good (getD (r .graph .nodes) i Fence) (subst WrongNode (mapped-at raw-label no-node (r .graph .nodes) i Fence (omega (arith, h, length-map (r .graph .nodes) raw-label))) b)
+      let l : i < length (r .graph .nodes) = omega (arith, h, length-map (r .graph .nodes) raw-label) in
+      label-good (getD (r .graph .nodes) i Fence) (subst WrongNode (mapped-at raw-label no-node (r .graph .nodes) i Fence l) b)
   proper-clean BadEdge q (i, h, b, e) = edge-wrong i h (rw (length-map (r .graph .nodes) raw-label) at b)
   proper-clean BadRule q (i, h, b, e) = rule-wrong i (omega (arith, h, length-map (r .rules) raw-rule)) b
   proper-clean BadOrder q (i, h, b, e) = order-wrong i h (rw (length-map (r .graph .nodes) raw-label) at b)

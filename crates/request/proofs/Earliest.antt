@@ -1,7 +1,7 @@
 -- The earliest number that passes a test, and whether some number does.
 -- Assumes nothing.
-use mathlib.Core.Bool.{Bool, _||_, false, true, cond}
-use mathlib.Core.Path.{_∙_, _≡_, ap, refl, sym}
+use mathlib.Core.Bool.{Bool, false, or-true, true}
+use mathlib.Core.Path.{_∙_, _≡_, refl, sym}
 use Prim.Native.Nat.{_+_, _<_, _≤_, suc, zero, ℕ}
 use native.Mathlib.Decide.{ℕ-discrete}
 use native.Mathlib.Omega.{arith}
@@ -10,11 +10,10 @@ use Rattle.request.specs.Earliest.{any, earliest, earliestFrom}
 earliestFrom-is : (p : ℕ → Bool) (n i j : ℕ) → i ≤ j → j < i + n → ((k : ℕ) → k < j → p k ≡ false) → p j ≡ true → earliestFrom p n i ≡ j
 unfolding earliestFrom
 earliestFrom-is p zero i j l h f e = absurd (omega arith)
-earliestFrom-is p (suc n) i j l h f e = go (ℕ-discrete i j) (λ m. earliestFrom-is p n (suc i) j m (omega arith) f e)
-  where
-    go : Dec (i ≡ j) → (suc i ≤ j → earliestFrom p n (suc i) ≡ j) → cond (p i) i (earliestFrom p n (suc i)) ≡ j
-    go (yes q) rec = let r : p i ≡ true = ap p q ∙ e in rw r q
-    go (no q) rec = rw (f i (omega (arith, q))) (rec (omega (arith, q)))
+earliestFrom-is p (suc n) i j l h f e = elim (ℕ-discrete i j) [
+  | yes q ↦ rw (q, e) refl
+  | no q ↦ rw (f i (omega (arith, q))) (earliestFrom-is p n (suc i) j (omega (arith, q)) (omega arith) f e)
+]
 
 pub earliest-is : (p : ℕ → Bool) (n j : ℕ) → j < n → ((k : ℕ) → k < j → p k ≡ false) → p j ≡ true → earliest p n ≡ j
 earliest-is p n j l f e = earliestFrom-is p n 0 j (omega arith) (omega arith) f e
@@ -32,15 +31,10 @@ earliest-none p n f = earliestFrom-none p n 0 (λ k h. f k (omega arith)) ∙ om
 pub any-yes : (p : ℕ → Bool) (n j : ℕ) → j < n → p j ≡ true → any p n ≡ true
 unfolding any
 any-yes p zero j l e = absurd (omega arith)
-any-yes p (suc n) j l e = go (ℕ-discrete j n) (λ m. any-yes p n j m e)
-  where
-    step : (b : Bool) → any p n ≡ true → (b || any p n) ≡ true
-    step true q = refl
-    step false q = q
-
-    go : Dec (j ≡ n) → (j < n → any p n ≡ true) → (p n || any p n) ≡ true
-    go (yes q) rec = let r : p n ≡ true = ap p (sym q) ∙ e in rw r refl
-    go (no q) rec = step (p n) (rec (omega (arith, q)))
+any-yes p (suc n) j l e = elim (ℕ-discrete j n) [
+  | yes q ↦ rw (← q, e) refl
+  | no q ↦ rw (any-yes p n j (omega (arith, q)) e) (or-true (p n))
+]
 
 pub any-no : (p : ℕ → Bool) (n : ℕ) → ((k : ℕ) → k < n → p k ≡ false) → any p n ≡ false
 unfolding any

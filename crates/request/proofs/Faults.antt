@@ -2,23 +2,19 @@
 -- Assumes nothing.
 use mathlib.Core.List.{List, [], _∷_}
 use mathlib.Core.Path.{_≡_, refl, sym, ap, _∙_, subst}
-use Prim.Native.Nat.{ℕ, suc, _≤_}
-use native.Mathlib.Decide.{ℕ-discrete}
-use native.Mathlib.Omega.{arith}
+use Prim.Native.Nat.{ℕ}
 use lib.ListN.{length, getD}
 use Rattle.request.specs.declared.Answer.{Answer}
 use Rattle.request.specs.declared.Answer.the-variants.{Unreadable, TooMany, BadNode, BadEdge, BadRule, BadOrder, NoFenceRules, NoSuchOrder, NoRoom, NotLoose, ShortBuffer}
-use Rattle.request.specs.Answers.{rank}
 use Rattle.request.specs.Bad.{no-node, no-rule, first-edge, first-rule, first-order, Unread, Listed, WrongNode, WrongEdge, WrongRule, WrongOrder, Beyond, Unfenced, Bad, unread, beyond, wrong-node, wrong-edge, wrong-rule, wrong-order, unfenced}
 use Rattle.request.specs.Decode.{rawOf}
 use Rattle.request.specs.Raw.{Raw, file}
-use Rattle.request.proofs.Laid.{end-unmarked, laid-raw, laid-counts}
-use Rattle.request.proofs.Ranked.{rank-apart}
+use Rattle.request.proofs.Laid.{laid-raw, laid-counts}
 
 pub file-once : (s : List ℕ) (w v : Raw) → s ≡ file w → s ≡ file v → v ≡ w
 file-once s w v e f =
     sym (laid-raw s v (69 ∷ 78 ∷ []) f)
-    ∙ ap (rawOf s) (laid-counts s v (69 ∷ 78 ∷ []) f (end-unmarked []) ∙ sym (laid-counts s w (69 ∷ 78 ∷ []) e (end-unmarked [])))
+    ∙ ap (rawOf s) (laid-counts s v (69 ∷ 78 ∷ []) f refl ∙ sym (laid-counts s w (69 ∷ 78 ∷ []) e refl))
     ∙ laid-raw s w (69 ∷ 78 ∷ []) e
 
 -- this answer applies to the records at p
@@ -62,57 +58,5 @@ module _ (s : List ℕ) (w : Raw) (e : s ≡ file w) where
   fault-bad NotLoose p b = absurd b
   fault-bad ShortBuffer p b = absurd b
 
--- only answers of rank k and higher apply
-abbrev pub From : Raw → ℕ → Type 0
-From w k = (a : Answer) (p : ℕ) → Fault w a p → k ≤ rank a
-
--- an answer that does not apply is passed
-pub from-up : (w : Raw) (a : Answer) → From w (rank a) → ((p : ℕ) → Fault w a p → ⊥) → From w (suc (rank a))
-from-up w a f n x p b = go (ℕ-discrete (rank x) (rank a))
-  where
-    go : Dec (rank x ≡ rank a) → suc (rank a) ≤ rank x
-    go (yes e) = absurd (n p (subst (λ (y : Answer). Fault w y p) (rank-apart x a e) b))
-    go (no d) = omega (arith, f x p b, d)
-
--- the other four answers are none of reading's
-pub from-clean : (w : Raw) → From w (suc (rank NoFenceRules)) → Clean w
-from-clean w f a p b = omega (arith, f a p b, low a b)
-  where
-    low : (a : Answer) → Fault w a p → rank a ≤ rank NoFenceRules
-    low Unreadable b = absurd b
-    low TooMany b = omega arith
-    low BadNode b = omega arith
-    low BadEdge b = omega arith
-    low BadRule b = omega arith
-    low BadOrder b = omega arith
-    low NoFenceRules b = omega arith
-    low NoSuchOrder b = absurd b
-    low NoRoom b = absurd b
-    low NotLoose b = absurd b
-    low ShortBuffer b = absurd b
-
--- what the lowest answer says
-abbrev Said : List ℕ → Answer → ℕ → Type 0
-Said s Unreadable p = Unread s p
-Said s TooMany p = Unit {0}
-Said s BadNode p = Unit {0}
-Said s BadEdge p = Unit {0}
-Said s BadRule p = Unit {0}
-Said s BadOrder p = Unit {0}
-Said s NoFenceRules p = Unit {0}
-Said s NoSuchOrder p = Unit {0}
-Said s NoRoom p = Unit {0}
-Said s NotLoose p = Unit {0}
-Said s ShortBuffer p = Unit {0}
-
-said : (s : List ℕ) {a : Answer} {p : ℕ} → Bad s a p → Said s a p
-said s (unread u) = u
-said s (beyond v f b) = tt
-said s (wrong-node v f b) = tt
-said s (wrong-edge v f b) = tt
-said s (wrong-rule v f b) = tt
-said s (wrong-order v f b) = tt
-said s (unfenced v f b) = tt
-
 pub bad-unread : (s : List ℕ) (p : ℕ) → Bad s Unreadable p → Unread s p
-bad-unread s p b = said s b
+bad-unread s p (unread u) = u

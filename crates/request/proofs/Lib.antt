@@ -1,14 +1,13 @@
 -- What the code computes, case by case.
 pub mod Recorded
 pub mod Earliest
-pub mod Pairs
+pub mod Repeated
 pub mod Cases
 pub mod Readings
 -- Bytes and records, there and back.
-pub mod Kind
-pub mod Four
-pub mod Laid
+pub mod Marks
 pub mod Records
+pub mod Laid
 -- The answers.
 pub mod Tests
 pub mod Stage
@@ -22,7 +21,7 @@ pub mod Sides
 pub mod Clean
 -- What is promised of reading, what it gives, and samples.
 pub mod Answered
-pub mod Filled
-pub mod Given
+pub mod Stored
+pub mod Loading
 pub mod Computed
 pub mod Samples

@@ -1,28 +1,19 @@
 -- Lists mapped, by the numbers of their elements.
 -- Assumes nothing.
-use mathlib.Core.List.{List, List·Memᴰ, List·Memᴰ·cases-cons, List·Memᴰ·head, List·Memᴰ·not-nil, List·Memᴰ·tail, [], _∷_, flatMap, map}
-use mathlib.Core.Logic.{_⊎_, inl, inr}
-use mathlib.Core.Path.{_≡_, refl}
+use mathlib.Core.List.{List, List·Memᴰ, [], _∷_, flatMap, map}
+use mathlib.Core.Path.{_≡_, refl, subst⁻¹, sym, _∙_}
 use Prim.Native.Nat.{_<_, suc, zero, ℕ}
 use native.Mathlib.Omega.{arith}
-use lib.ListN.{getD, length}
+use lib.ListN.{getD, length, length-map, List·getD-map}
+use Rattle.graph.proofs.Members.{at-mem, mem-at}
 
 module _ {A B : Type 0} where
   pub mem-map : (f : A → B) (d : A) (l : List A) {x : B} → List·Memᴰ x (map f l) → (i : ℕ) × (i < length l) × (x ≡ f (getD l i d))
-  mem-map f d [] m = absurd (List·Memᴰ·not-nil m)
-  mem-map f d (y ∷ l) {x} m = go (List·Memᴰ·cases-cons m) (λ n. mem-map f d l n)
-    where
-      later : (i : ℕ) × (i < length l) × (x ≡ f (getD l i d)) → (i : ℕ) × (i < suc (length l)) × (x ≡ f (getD (y ∷ l) i d))
-      later (i, h, e) = (suc i, omega arith, e)
-
-      go : (x ≡ f y) ⊎ List·Memᴰ x (map f l) → (List·Memᴰ x (map f l) → (i : ℕ) × (i < length l) × (x ≡ f (getD l i d))) → (i : ℕ) × (i < suc (length l)) × (x ≡ f (getD (y ∷ l) i d))
-      go (inl e) rec = (0, omega arith, e)
-      go (inr m) rec = later (rec m)
+  mem-map f d l m = let at = mem-at (f d) (map f l) m in (at .0, omega (arith, at .1, length-map l f), at .2 ∙ List·getD-map f l (at .0) d)
 
   pub map-mem : (f : A → B) (d : A) (l : List A) (i : ℕ) (x : B) → i < length l → x ≡ f (getD l i d) → List·Memᴰ x (map f l)
-  map-mem f d [] i x h e = absurd (let z : ⊥ = omega arith in z)
-  map-mem f d (y ∷ l) zero x h e = List·Memᴰ·head e
-  map-mem f d (y ∷ l) (suc i) x h e = List·Memᴰ·tail (map-mem f d l i x (omega arith) e)
+  map-mem f d l i x h e =
+      subst⁻¹ (λ (y : B). List·Memᴰ y (map f l)) (e ∙ sym (List·getD-map f l i d)) (at-mem (f d) (map f l) i (omega (arith, length-map l f)))
 
   pub map-flat : (f : A → B) (e : A → List ℕ) (e′ : B → List ℕ) → ((x : A) → e x ≡ e′ (f x)) → (l : List A) → flatMap e l ≡ flatMap e′ (map f l)
   unfolding flatMap

@@ -1,18 +1,23 @@
 -- No two answers have one rank.
 -- Assumes nothing.
-use mathlib.Core.List.{[], _∷_}
+use mathlib.Core.Bool.{cond}
+use mathlib.Core.List.{List, [], _∷_}
 use mathlib.Core.Path.{_≡_, refl, sym, ap, _∙_}
 use Prim.Native.Nat.{ℕ}
-use lib.ListN.{getD}
+use lib.Dec.{eqb}
 use Rattle.request.specs.declared.Answer.{Answer}
 use Rattle.request.specs.declared.Answer.the-variants.{Unreadable, TooMany, BadNode, BadEdge, BadRule, BadOrder, NoFenceRules, NoSuchOrder, NoRoom, NotLoose, ShortBuffer}
 use Rattle.request.specs.Answers.{rank}
 
--- the answers by rank
-abbrev unrank : ℕ → Answer
-unrank n = getD (Unreadable ∷ TooMany ∷ BadNode ∷ BadEdge ∷ BadRule ∷ BadOrder ∷ NoFenceRules ∷ NoSuchOrder ∷ NoRoom ∷ NotLoose ∷ []) n ShortBuffer
+abbrev answers : List Answer
+answers = Unreadable ∷ TooMany ∷ BadNode ∷ BadEdge ∷ BadRule ∷ BadOrder ∷ NoFenceRules ∷ NoSuchOrder ∷ NoRoom ∷ NotLoose ∷ ShortBuffer ∷ []
 
-unrank-rank : (a : Answer) → unrank (rank a) ≡ a
+-- the first of these with the rank
+abbrev ranked : List Answer → ℕ → Answer
+ranked [] n = Unreadable
+ranked (a ∷ l) n = cond (eqb (rank a) n) a (ranked l n)
+
+unrank-rank : (a : Answer) → ranked answers (rank a) ≡ a
 unrank-rank Unreadable = refl
 unrank-rank TooMany = refl
 unrank-rank BadNode = refl
@@ -26,4 +31,4 @@ unrank-rank NotLoose = refl
 unrank-rank ShortBuffer = refl
 
 pub rank-apart : (a b : Answer) → rank a ≡ rank b → a ≡ b
-rank-apart a b e = sym (unrank-rank a) ∙ ap unrank e ∙ unrank-rank b
+rank-apart a b e = sym (unrank-rank a) ∙ ap (ranked answers) e ∙ unrank-rank b

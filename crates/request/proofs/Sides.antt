@@ -14,7 +14,7 @@ use Rattle.graph.specs.declared.Rule.{Rule}
 use Rattle.graph.specs.declared.Side.{Side}
 use Rattle.graph.specs.declared.Side.the-variants.{Any, Is}
 use Rattle.request.specs.Bad.{WrongNode, WrongRule}
-use Rattle.request.specs.Decode.{label-of, labelOf, raw-label, raw-rule, raw-side, rawed, rule-of, sideOf, understood}
+use Rattle.request.specs.Decode.{label-of, raw-label, raw-rule, raw-side, rawed, rule-of, sideOf, understood}
 use Rattle.request.specs.File.{Request, bytes, node-bytes, rule-bytes, side-bytes}
 use Rattle.request.specs.Proper.{Addressed, Formed, FormedLeft, FormedRight, HasVariable}
 use Rattle.request.specs.Raw.{RawNode, RawRule, file, raw-node-bytes, raw-rule-bytes}
@@ -39,7 +39,8 @@ rule-same r = rw (side-same (r .left), side-same (r .right)) refl
 
 pub file-rawed : (r : Request) → bytes r ≡ file (rawed r)
 unfolding bytes
-file-rawed r = rw (map-flat raw-label node-bytes raw-node-bytes node-same (r .graph .nodes), map-flat raw-rule rule-bytes raw-rule-bytes rule-same (r .rules)) refl
+file-rawed r =
+    rw (map-flat raw-label node-bytes raw-node-bytes node-same (r .graph .nodes), map-flat raw-rule rule-bytes raw-rule-bytes rule-same (r .rules)) refl
 
 -- ---- from a request to the numbers and back
 
@@ -77,35 +78,31 @@ label-back n b = go (n .kind) refl
     go (suc (suc zero)) e = let a = sym (stable (says-eq (n .address) 0) (λ z. b (inr (e, z)))) in rw e (λ i. record { kind = 2; address = a i })
     go (suc (suc (suc k))) e = absurd (b (inl (omega arith)))
 
+-- what holds of each kind that a rule may have
+kinds : (P : ℕ → Type 0) → P 0 → P 1 → P 2 → P 3 → (k : ℕ) → k ≤ 3 → P k
+kinds P a b c d zero h = a
+kinds P a b c d (suc zero) h = b
+kinds P a b c d (suc (suc zero)) h = c
+kinds P a b c d (suc (suc (suc zero))) h = d
+kinds P a b c d (suc (suc (suc (suc k)))) h = absurd (let z : ⊥ = omega arith in z)
+
 side-back : (k v : ℕ) → k ≤ 3 → (2 ≤ k → v ≡ 0) → ((raw-side (sideOf k v)) .kind ≡ k) × ((raw-side (sideOf k v)) .address ≡ v)
-side-back zero v h z = (refl, refl)
-side-back (suc zero) v h z = (refl, refl)
-side-back (suc (suc zero)) v h z = (refl, sym (z (omega arith)))
-side-back (suc (suc (suc zero))) v h z = (refl, sym (z (omega arith)))
-side-back (suc (suc (suc (suc k)))) v h z = absurd (let q : ⊥ = omega arith in q)
+side-back k v = kinds (λ k. (2 ≤ k → v ≡ 0) → ((raw-side (sideOf k v)) .kind ≡ k) × ((raw-side (sideOf k v)) .address ≡ v))
+    (λ z. (refl, refl)) (λ z. (refl, refl)) (λ z. (refl, sym (z (omega arith)))) (λ z. (refl, sym (z (omega arith)))) k
 
 left-formed : (k v : ℕ) → k ≤ 3 → (k < 2 → v ≡ 1) → FormedLeft (sideOf k v)
-left-formed zero v h z = z (omega arith)
-left-formed (suc zero) v h z = z (omega arith)
-left-formed (suc (suc zero)) v h z = tt
-left-formed (suc (suc (suc zero))) v h z = tt
-left-formed (suc (suc (suc (suc k)))) v h z = absurd (let q : ⊥ = omega arith in q)
+left-formed k v = kinds (λ k. (k < 2 → v ≡ 1) → FormedLeft (sideOf k v)) (λ z. z (omega arith)) (λ z. z (omega arith)) (λ z. tt) (λ z. tt) k
 
 has-variable : (k v : ℕ) → k < 2 → HasVariable (sideOf k v)
-has-variable zero v h = tt
-has-variable (suc zero) v h = tt
-has-variable (suc (suc k)) v h = absurd (let q : ⊥ = omega arith in q)
+has-variable k v h = kinds (λ k. k < 2 → HasVariable (sideOf k v)) (λ z. tt) (λ z. tt) (λ z. omega arith) (λ z. omega arith) k (omega arith) h
 
 right-variable : (l u v : ℕ) → (v ≡ 1) ⊎ ((v ≡ 2) × (l < 2)) → (v ≡ 1) ⊎ ((v ≡ 2) × HasVariable (sideOf l u))
 right-variable l u v (inl e) = inl e
 right-variable l u v (inr (e, q)) = inr (e, has-variable l u q)
 
 right-formed : (l u k v : ℕ) → k ≤ 3 → (k < 2 → (v ≡ 1) ⊎ ((v ≡ 2) × (l < 2))) → FormedRight (sideOf l u) (sideOf k v)
-right-formed l u zero v h z = right-variable l u v (z (omega arith))
-right-formed l u (suc zero) v h z = right-variable l u v (z (omega arith))
-right-formed l u (suc (suc zero)) v h z = tt
-right-formed l u (suc (suc (suc zero))) v h z = tt
-right-formed l u (suc (suc (suc (suc k)))) v h z = absurd (let q : ⊥ = omega arith in q)
+right-formed l u k v = kinds (λ k. (k < 2 → (v ≡ 1) ⊎ ((v ≡ 2) × (l < 2))) → FormedRight (sideOf l u) (sideOf k v))
+    (λ z. right-variable l u v (z (omega arith))) (λ z. right-variable l u v (z (omega arith))) (λ z. tt) (λ z. tt) k
 
 module _ (r : RawRule) (b : WrongRule r → ⊥) where
   left-low : r .left ≤ 3
@@ -124,12 +121,13 @@ module _ (r : RawRule) (b : WrongRule r → ⊥) where
   left-one h = stable (says-eq (r .left-variable) 1) (λ e. b (inl (inr (inl (h, e)))))
 
   right-one : r .right < 2 → (r .right-variable ≡ 1) ⊎ ((r .right-variable ≡ 2) × (r .left < 2))
-  right-one h = go (decide (says-eq (r .right-variable) 1)) (decide (says-eq (r .right-variable) 2))
-    where
-      go : (r .right-variable ≡ 1) ⊎ (r .right-variable ≢ 1) → (r .right-variable ≡ 2) ⊎ (r .right-variable ≢ 2) → (r .right-variable ≡ 1) ⊎ ((r .right-variable ≡ 2) × (r .left < 2))
-      go (inl e) q = inl e
-      go (inr e) (inl q) = let n : 2 ≤ r .left → ⊥ = λ l. b (inr (inr (inl (h, (e, inr l))))) in inr (q, omega (arith, n))
-      go (inr e) (inr q) = absurd (b (inr (inr (inl (h, (e, inl q))))))
+  right-one h = elim (decide (says-eq (r .right-variable) 1)) [
+    | inl e ↦ inl e
+    | inr e ↦ elim (decide (says-eq (r .right-variable) 2)) [
+      | inl q ↦ let n : 2 ≤ r .left → ⊥ = λ l. b (inr (inr (inl (h, (e, inr l))))) in inr (q, omega (arith, n))
+      | inr q ↦ absurd (b (inr (inr (inl (h, (e, inl q))))))
+    ]
+  ]
 
   pub rule-back : raw-rule (rule-of r) ≡ r
   rule-back =
@@ -138,12 +136,15 @@ module _ (r : RawRule) (b : WrongRule r → ⊥) where
       λ i. record { left = p .0 i; left-variable = p .1 i; right = q .0 i; right-variable = q .1 i }
 
   pub rule-formed : Formed (rule-of r)
-  rule-formed = (left-formed (r .left) (r .left-variable) left-low left-one, right-formed (r .left) (r .left-variable) (r .right) (r .right-variable) right-low right-one)
+  rule-formed = (
+    left-formed (r .left) (r .left-variable) left-low left-one,
+    right-formed (r .left) (r .left-variable) (r .right) (r .right-variable) right-low right-one,
+  )
 
-pub label-addressed : (k a : ℕ) → a < 256 → Addressed (labelOf k a)
-label-addressed k a h = go (eqb k 0) (eqb k 1)
+pub label-addressed : (n : RawNode) → n .address < 256 → Addressed (label-of n)
+label-addressed n h = go (eqb (n .kind) 0) (eqb (n .kind) 1)
   where
-    go : (x y : Bool) → Addressed (cond x (Store a) (cond y (Load a) Fence))
+    go : (x y : Bool) → Addressed (cond x (Store (n .address)) (cond y (Load (n .address)) Fence))
     go true y = h
     go false true = h
     go false false = tt
@@ -179,7 +180,8 @@ variable-good l v (inl e) (n, m) = n e
 variable-good l v (inr (e, h)) (n, inl m) = m e
 variable-good l v (inr (e, h)) (n, inr m) = let k = variable-low l h in omega arith
 
-right-good : (l x : Side) → FormedRight l x → (raw-side x) .kind < 2 → ((raw-side x) .address ≢ 1) × (((raw-side x) .address ≢ 2) ⊎ (2 ≤ (raw-side l) .kind)) → ⊥
+right-good : (l x : Side) → FormedRight l x → (raw-side x) .kind < 2
+    → ((raw-side x) .address ≢ 1) × (((raw-side x) .address ≢ 2) ⊎ (2 ≤ (raw-side l) .kind)) → ⊥
 right-good l (Is (Store v)) f h n = variable-good l v f n
 right-good l (Is (Load v)) f h n = variable-good l v f n
 right-good l (Is Fence) f h n = omega arith

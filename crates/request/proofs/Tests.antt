@@ -10,13 +10,16 @@ use lib.ListN.{getD}
 use Rattle.graph.specs.declared.Edge.{Edge}
 use Rattle.graph.specs.declared.Order.{Order}
 use Rattle.request.specs.declared.Counts.{Counts}
-use Rattle.graph.specs.Graph.{no-edge, order}
+use Rattle.request.specs.declared.Mark.{Mark}
+use Rattle.request.specs.declared.Mark.the-variants.{Nd, Ed, Ru, Or}
+use Rattle.graph.specs.Graph.{no-edge, no-order, order}
 use Rattle.request.specs.Bad.{Leads, WrongEdge, WrongNode, WrongOrder, WrongRule, no-node, no-rule}
-use Rattle.request.specs.Decode.{edgeAt, nodeAt, orderAt, ruleAt, table}
+use Rattle.request.specs.Decode.{recordsIn}
 use Rattle.request.specs.Earliest.{any}
-use Rattle.request.specs.Tables.{badEdge, badLeft, badNode, badOrder, badRight, badRule, edgesAt, firstOf, fromOf, leads, ordersAt, repeated, ruleByte, rulesAt, samePair, secondOf, toOf, weightOf, word}
+use Rattle.request.specs.Layout.{startOf, width}
+use Rattle.request.specs.Tables.{badEdge, badLeft, badNode, badOrder, badRight, badRule, leads, repeated, samePair, someLeads, twoAt}
 use Rattle.graph.proofs.Says.{Says, says-and, says-eq, says-le, says-lt, says-not, says-or, someBelow, says-below}
-use Rattle.request.proofs.Records.{edge-at, len-rules, node-at, order-at, rule-at}
+use Rattle.request.proofs.Records.{record-read, records-length}
 
 any-below : (f : ℕ → Bool) (n : ℕ) → any f n ≡ someBelow n f
 unfolding any
@@ -26,69 +29,80 @@ any-below f (suc n) = ap (λ (b : Bool). f n || b) (any-below f n)
 pub says-any : (f : ℕ → Bool) (P : ℕ → Type 0) (n : ℕ) → ((i : ℕ) → i < n → Says (f i) (P i)) → Says (any f n) ((i : ℕ) × (i < n) × P i)
 says-any f P n s = subst⁻¹ (λ (b : Bool). Says b ((i : ℕ) × (i < n) × P i)) (any-below f n) (says-below n s)
 
-module _ (s : List ℕ) (cs : Counts) where
-  pub says-node : (i : ℕ) → i < cs .nodes → Says (badNode s i) (WrongNode (getD (table nodeAt 4 s 0 (cs .nodes)) i no-node))
-  unfolding badNode
-  says-node i h = rw (node-at s cs i h) (says-or (says-lt _ _) (says-and (says-eq _ _) (says-not (says-eq _ _))))
+says-left : (k v : ℕ) → Says (badLeft k v) ((3 < k) ⊎ (((k < 2) × (v ≢ 1)) ⊎ ((2 ≤ k) × (v ≢ 0))))
+unfolding badLeft
+says-left k v = says-or (says-lt 3 k) (says-or (says-and (says-lt k 2) (says-not (says-eq v 1))) (says-and (says-le 2 k) (says-not (says-eq v 0))))
 
-  says-pair : (p q : ℕ) → Says (samePair s p q) ((word s (p + 2) ≡ word s (q + 2)) × (word s (p + 4) ≡ word s (q + 4)))
+says-right : (l k v : ℕ) → Says (badRight l k v) ((3 < k) ⊎ (((k < 2) × ((v ≢ 1) × ((v ≢ 2) ⊎ (2 ≤ l)))) ⊎ ((2 ≤ k) × (v ≢ 0))))
+unfolding badRight
+says-right l k v =
+    says-or (says-lt 3 k)
+    (says-or (says-and (says-lt k 2) (says-and (says-not (says-eq v 1)) (says-or (says-not (says-eq v 2)) (says-le 2 l))))
+    (says-and (says-le 2 k) (says-not (says-eq v 0))))
+
+module _ (s : List ℕ) (cs : Counts) where
+  -- where record i of a mark stands
+  abbrev at : Mark → ℕ → ℕ
+  at m i = startOf cs m + i * width m
+
+  -- byte k of it, and the number of two bytes there
+  abbrev byte : Mark → ℕ → ℕ → ℕ
+  byte m i k = getD s (at m i + k) 0
+
+  abbrev two : Mark → ℕ → ℕ → ℕ
+  two m i k = twoAt s (at m i + k)
+
+  says-pair : (p q : ℕ) → Says (samePair s p q) ((twoAt s (p + 2) ≡ twoAt s (q + 2)) × (twoAt s (p + 4) ≡ twoAt s (q + 4)))
   unfolding samePair
-  says-pair p q = says-and (says-eq (word s (p + 2)) (word s (q + 2))) (says-eq (word s (p + 4)) (word s (q + 4)))
+  says-pair p q = says-and (says-eq (twoAt s (p + 2)) (twoAt s (q + 2))) (says-eq (twoAt s (p + 4)) (twoAt s (q + 4)))
+
+  pub says-node : (i : ℕ) → i < cs .nodes → Says (badNode s (at Nd i)) (WrongNode (getD (recordsIn s cs Nd) i no-node))
+  unfolding badNode
+  says-node i h =
+      rw (record-read s cs Nd no-node i h)
+      (says-or (says-lt 2 (byte Nd i 2)) (says-and (says-eq (byte Nd i 2) 2) (says-not (says-eq (byte Nd i 3) 0))))
 
   abbrev es : List Edge
-  es = table edgeAt 8 s (edgesAt cs) (cs .edges)
+  es = recordsIn s cs Ed
 
-  pub says-edge : (i : ℕ) → i < cs .edges → Says (badEdge s cs i) (WrongEdge (cs .nodes) es i)
+  pub says-edge : (i : ℕ) → i < cs .edges → Says (badEdge s (cs .nodes) (startOf cs Ed) i) (WrongEdge (cs .nodes) es i)
   unfolding badEdge repeated
   says-edge i h =
-      rw (edge-at s cs i h)
-      (says-or (says-le (cs .nodes) (fromOf s cs i))
-      (says-or (says-le (cs .nodes) (toOf s cs i))
-      (says-or (says-eq (weightOf s cs i) 0)
-      (says-any (λ j. samePair s (edgesAt cs + j * 8) (edgesAt cs + i * 8))
-      (λ j. ((getD es j no-edge) .from ≡ fromOf s cs i) × ((getD es j no-edge) .to ≡ toOf s cs i))
+      rw (record-read s cs Ed no-edge i h)
+      (says-or (says-le (cs .nodes) (two Ed i 2))
+      (says-or (says-le (cs .nodes) (two Ed i 4))
+      (says-or (says-eq (two Ed i 6) 0)
+      (says-any (λ j. samePair s (at Ed j) (at Ed i))
+      (λ j. ((getD es j no-edge) .from ≡ two Ed i 2) × ((getD es j no-edge) .to ≡ two Ed i 4))
       i
-      (λ j l. rw (edge-at s cs j (omega arith)) (says-pair (edgesAt cs + j * 8) (edgesAt cs + i * 8)))))))
+      (λ j l. rw (record-read s cs Ed no-edge j (omega arith)) (says-pair (at Ed j) (at Ed i)))))))
 
-  says-left : (k v : ℕ) → Says (badLeft k v) ((3 < k) ⊎ (((k < 2) × (v ≢ 1)) ⊎ ((2 ≤ k) × (v ≢ 0))))
-  unfolding badLeft
-  says-left k v = says-or (says-lt 3 k) (says-or (says-and (says-lt k 2) (says-not (says-eq v 1))) (says-and (says-le 2 k) (says-not (says-eq v 0))))
-
-  says-right : (l k v : ℕ) → Says (badRight l k v) ((3 < k) ⊎ (((k < 2) × ((v ≢ 1) × ((v ≢ 2) ⊎ (2 ≤ l)))) ⊎ ((2 ≤ k) × (v ≢ 0))))
-  unfolding badRight
-  says-right l k v =
-      says-or (says-lt 3 k)
-      (says-or (says-and (says-lt k 2) (says-and (says-not (says-eq v 1)) (says-or (says-not (says-eq v 2)) (says-le 2 l))))
-      (says-and (says-le 2 k) (says-not (says-eq v 0))))
-
-  pub says-rule : (i : ℕ) → i < cs .rules → Says (badRule s cs i) (WrongRule (getD (table ruleAt 6 s (rulesAt cs) (cs .rules)) i no-rule))
+  pub says-rule : (i : ℕ) → i < cs .rules → Says (badRule s (at Ru i)) (WrongRule (getD (recordsIn s cs Ru) i no-rule))
   unfolding badRule
   says-rule i h =
-      rw (rule-at s cs i h) (says-or (says-left (ruleByte s cs i 2) (ruleByte s cs i 3)) (says-right (ruleByte s cs i 2) (ruleByte s cs i 4) (ruleByte s cs i 5)))
+      rw (record-read s cs Ru no-rule i h)
+      (says-or (says-left (byte Ru i 2) (byte Ru i 3)) (says-right (byte Ru i 2) (byte Ru i 4) (byte Ru i 5)))
 
   abbrev os : List Order
-  os = table orderAt 6 s (ordersAt cs) (cs .orders)
+  os = recordsIn s cs Or
 
-  pub says-order : (i : ℕ) → i < cs .orders → Says (badOrder s cs i) (WrongOrder (cs .nodes) os i)
+  pub says-order : (i : ℕ) → i < cs .orders → Says (badOrder s (cs .nodes) (startOf cs Or) i) (WrongOrder (cs .nodes) os i)
   unfolding badOrder repeated
   says-order i h =
-      rw (order-at s cs i h)
-      (says-or (says-le (cs .nodes) (firstOf s cs i))
-      (says-or (says-le (cs .nodes) (secondOf s cs i))
-      (says-or (says-eq (firstOf s cs i) (secondOf s cs i))
-      (says-any (λ j. samePair s (ordersAt cs + j * 6) (ordersAt cs + i * 6))
-      (λ j. ((order os j) .first ≡ firstOf s cs i) × ((order os j) .second ≡ secondOf s cs i))
+      rw (record-read s cs Or no-order i h)
+      (says-or (says-le (cs .nodes) (two Or i 2))
+      (says-or (says-le (cs .nodes) (two Or i 4))
+      (says-or (says-eq (two Or i 2) (two Or i 4))
+      (says-any (λ j. samePair s (at Or j) (at Or i))
+      (λ j. ((order os j) .first ≡ two Or i 2) × ((order os j) .second ≡ two Or i 4))
       i
-      (λ j l. rw (order-at s cs j (omega arith)) (says-pair (ordersAt cs + j * 6) (ordersAt cs + i * 6)))))))
+      (λ j l. rw (record-read s cs Or no-order j (omega arith)) (says-pair (at Or j) (at Or i)))))))
 
-  pub says-leads : (a b : ℕ) → Says (any (leads s cs a b) (cs .rules)) (Leads (table ruleAt 6 s (rulesAt cs) (cs .rules)) a b)
-  says-leads a b =
-      rw (len-rules s cs)
-      (says-any (leads s cs a b)
-      (λ i. ((getD (table ruleAt 6 s (rulesAt cs) (cs .rules)) i no-rule) .left ≡ a) × ((getD (table ruleAt 6 s (rulesAt cs) (cs .rules)) i no-rule) .right ≡ b))
-      (cs .rules)
-      one)
+  abbrev Leading : ℕ → ℕ → ℕ → Type 0
+  Leading a b i = ((getD (recordsIn s cs Ru) i no-rule) .left ≡ a) × ((getD (recordsIn s cs Ru) i no-rule) .right ≡ b)
+
+  pub says-leads : (a b : ℕ) → Says (someLeads s (startOf cs Ru) (cs .rules) a b) (Leads (recordsIn s cs Ru) a b)
+  says-leads a b = rw (records-length s cs Ru) (says-any (λ i. leads s a b (at Ru i)) (Leading a b) (cs .rules) one)
     where
-      one : (i : ℕ) → i < cs .rules
-          → Says (leads s cs a b i) (((getD (table ruleAt 6 s (rulesAt cs) (cs .rules)) i no-rule) .left ≡ a) × ((getD (table ruleAt 6 s (rulesAt cs) (cs .rules)) i no-rule) .right ≡ b))
-      one i h = rw (rule-at s cs i h) (unfold leads in says-and (says-eq (ruleByte s cs i 2) a) (says-eq (ruleByte s cs i 4) b))
+      one : (i : ℕ) → i < cs .rules → Says (leads s a b (at Ru i)) (Leading a b i)
+      one i h = rw (record-read s cs Ru no-rule i h) (unfold leads in says-and (says-eq (byte Ru i 2) a) (says-eq (byte Ru i 4) b))

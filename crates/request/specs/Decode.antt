@@ -2,7 +2,6 @@
 -- Assumes nothing.
 use mathlib.Core.Bool.{cond}
 use mathlib.Core.List.{List, [], _∷_, map}
-use mathlib.Core.Path.{_≡_}
 use Prim.Native.Nat.{ℕ, zero, suc, _+_}
 use lib.Dec.{eqb}
 use lib.ListN.{length, getD}
@@ -14,42 +13,54 @@ use Rattle.graph.specs.declared.Order.{Order}
 use Rattle.graph.specs.declared.Rule.{Rule}
 use Rattle.graph.specs.declared.Side.{Side}
 use Rattle.graph.specs.declared.Side.the-variants.{Any, Is}
-use Rattle.graph.specs.declared.Graph as Value
-use Rattle.graph.specs.Value.{graphOf, rulesOf, ordersOf, Sized, Roomy}
 use Rattle.request.specs.declared.Counts.{Counts}
-use Rattle.request.specs.File.{Request}
-use Rattle.request.specs.Raw.{RawNode, RawRule, Raw}
-use Rattle.request.specs.Tables.{word, edgesAt, rulesAt, ordersAt}
+use Rattle.request.specs.declared.Mark.{Mark}
+use Rattle.request.specs.declared.Mark.the-variants.{Nd, Ed, Ru, Or}
+use Rattle.request.specs.File.{Request, edge-bytes, order-bytes}
+use Rattle.request.specs.Layout.{counted, startOf, width}
+use Rattle.request.specs.Raw.{RawNode, RawRule, Raw, raw-node-bytes, raw-rule-bytes}
+use Rattle.request.specs.Tables.{twoAt}
 
--- the record at an offset. ND: kind, address
-abbrev pub nodeAt : List ℕ → ℕ → RawNode
-nodeAt s at = record { kind = getD s (at + 2) 0; address = getD s (at + 3) 0 }
+-- what a record of a mark holds
+abbrev pub Rec : Mark → Type 0
+Rec Nd = RawNode
+Rec Ed = Edge
+Rec Ru = RawRule
+Rec Or = Order
 
--- ED: from, to, weight
-abbrev pub edgeAt : List ℕ → ℕ → Edge
-edgeAt s at = record { from = word s (at + 2); to = word s (at + 4); weight = word s (at + 6) }
+-- its bytes
+abbrev pub bytesOf : (m : Mark) → Rec m → List ℕ
+bytesOf Nd x = raw-node-bytes x
+bytesOf Ed x = edge-bytes x
+bytesOf Ru x = raw-rule-bytes x
+bytesOf Or x = order-bytes x
 
--- RU: a kind and a variable for each side
-abbrev pub ruleAt : List ℕ → ℕ → RawRule
-ruleAt s at = record { left = getD s (at + 2) 0; left-variable = getD s (at + 3) 0; right = getD s (at + 4) 0; right-variable = getD s (at + 5) 0 }
-
--- OR: first, second
-abbrev pub orderAt : List ℕ → ℕ → Order
-orderAt s at = record { first = word s (at + 2); second = word s (at + 4) }
+-- the record at an offset
+abbrev pub readAt : (m : Mark) → List ℕ → ℕ → Rec m
+readAt Nd s at = record { kind = getD s (at + 2) 0; address = getD s (at + 3) 0 }
+readAt Ed s at = record { from = twoAt s (at + 2); to = twoAt s (at + 4); weight = twoAt s (at + 6) }
+readAt Ru s at = record { left = getD s (at + 2) 0; left-variable = getD s (at + 3) 0; right = getD s (at + 4) 0; right-variable = getD s (at + 5) 0 }
+readAt Or s at = record { first = twoAt s (at + 2); second = twoAt s (at + 4) }
 
 -- n records of z bytes each, one after the other
 unfoldable pub table : {X : Type 0} → (List ℕ → ℕ → X) → ℕ → List ℕ → ℕ → ℕ → List X
 table dec z s at zero = []
 table dec z s at (suc n) = dec s at ∷ table dec z s (at + z) n
 
--- all records, as many of each mark as counted
+-- the records of a mark, as many as counted
+abbrev pub recordsIn : List ℕ → Counts → (m : Mark) → List (Rec m)
+recordsIn s cs m = table (readAt m) (width m) s (startOf cs m) (counted cs m)
+
+-- all records
 abbrev pub rawOf : List ℕ → Counts → Raw
-rawOf s cs = record {
-  nodes = table nodeAt 4 s 0 (cs .nodes);
-  edges = table edgeAt 8 s (edgesAt cs) (cs .edges);
-  rules = table ruleAt 6 s (rulesAt cs) (cs .rules);
-  orders = table orderAt 6 s (ordersAt cs) (cs .orders);
-}
+rawOf s cs = record { nodes = recordsIn s cs Nd; edges = recordsIn s cs Ed; rules = recordsIn s cs Ru; orders = recordsIn s cs Or }
+
+-- those of a mark
+abbrev pub listOf : Raw → (m : Mark) → List (Rec m)
+listOf w Nd = w .nodes
+listOf w Ed = w .edges
+listOf w Ru = w .rules
+listOf w Or = w .orders
 
 -- what the numbers mean
 abbrev pub labelOf : ℕ → ℕ → Label
@@ -69,11 +80,11 @@ rule-of r = record { left = sideOf (r .left) (r .left-variable); right = sideOf 
 
 -- the same at an offset, as values
 abbrev pub nodeIn : List ℕ → ℕ → Node
-nodeIn s at = record { label = label-of (nodeAt s at) }
+nodeIn s at = record { label = label-of (readAt Nd s at) }
 
 -- the rule at an offset
 abbrev pub ruleIn : List ℕ → ℕ → Rule
-ruleIn s at = rule-of (ruleAt s at)
+ruleIn s at = rule-of (readAt Ru s at)
 
 -- the request that the records say
 abbrev pub understood : Raw → Request
@@ -110,15 +121,3 @@ raw-rule r = record {
 -- the records of a request
 abbrev pub rawed : Request → Raw
 rawed r = record { nodes = map raw-label (r .graph .nodes); edges = r .graph .edges; rules = map raw-rule (r .rules); orders = r .orders }
-
--- a graph by value has the lists of a request, and their counts
-pub record Decoded (g : Value.Graph) (r : Request) : Type 0 where
-  pub graph : graphOf g ≡ r .graph
-  pub rules : rulesOf g ≡ r .rules
-  pub orders : ordersOf g ≡ r .orders
-  pub node-count : g .«node_count» ≡ length (r .graph .nodes)
-  pub edge-count : g .«edge_count» ≡ length (r .graph .edges)
-  pub rule-count : g .«rule_count» ≡ length (r .rules)
-  pub order-count : g .«order_count» ≡ length (r .orders)
-  pub sized : Sized g
-  pub roomy : Roomy g

@@ -54,7 +54,9 @@ order-bytes o = 79 ∷ 82 ∷ (two (o .first) ++ two (o .second))
 -- "Records stand in the order ND, ED, RU, OR, EN, as many of each as wished but one EN, which ends the file."
 unfoldable pub bytes : Request → List ℕ
 unfolding flatMap
-bytes r = flatMap node-bytes (r .graph .nodes) ++ (flatMap edge-bytes (r .graph .edges) ++ (flatMap rule-bytes (r .rules) ++ (flatMap order-bytes (r .orders) ++ (69 ∷ 78 ∷ []))))
+bytes r =
+    flatMap node-bytes (r .graph .nodes)
+    ++ (flatMap edge-bytes (r .graph .edges) ++ (flatMap rule-bytes (r .rules) ++ (flatMap order-bytes (r .orders) ++ (69 ∷ 78 ∷ []))))
 
 -- entries that are bytes
 abbrev pub Bytes : List ℕ → Type 0

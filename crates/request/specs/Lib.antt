@@ -5,6 +5,7 @@ pub mod Raw
 pub mod Bad
 pub mod Proper
 pub mod Outcome
+pub mod Value
 -- The code's side: the same by offsets and tests that compute.
 pub mod Earliest
 pub mod Layout

@@ -75,3 +75,8 @@ pub record Holds (s : List ℕ) (cs : Counts) (r : Request) : Type 0 where
   pub is-bytes : s ≡ bytes r
   pub proper : Proper r
   pub counts : cs ≡ countsOf r
+
+-- the file is the bytes of the request, which is one that document 01 allows
+pub record Reads (s : List ℕ) (q : Request) : Type 0 where
+  pub is-bytes : s ≡ bytes q
+  pub proper : Proper q

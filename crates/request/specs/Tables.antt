@@ -1,73 +1,49 @@
--- Answers 3 to 7 as they are computed: what is wrong with a node, an edge, a rule, an order, which rules are missing, and the whole reading.
+-- Answers 2 to 7 as they are computed: what is wrong with each record, which rules are missing, the checks in their order, and the whole reading.
 -- Assumes nothing.
-use mathlib.Core.Bool.{Bool, not, _&&_, _||_, cond}
-use mathlib.Core.List.{List}
-use Prim.Native.Nat.{ℕ, _+_, _*_}
+use mathlib.Core.Bool.{Bool, not, _&&_, _||_, cond, false}
+use mathlib.Core.List.{List, [], _∷_}
+use mathlib.Core.Path.{_≡_}
+use Prim.Native.Nat.{ℕ, _+_, _*_, _<_, _≤_}
 use lib.Dec.{leb, ltb, eqb}
 use lib.ListN.{getD}
 use Rattle.request.specs.declared.Answer.{Answer}
-use Rattle.request.specs.declared.Answer.the-variants.{BadEdge, BadNode, BadOrder, BadRule, NoFenceRules}
+use Rattle.request.specs.declared.Answer.the-variants.{BadEdge, BadNode, BadOrder, BadRule, NoFenceRules, TooMany}
+use Rattle.request.specs.declared.Check.{Check}
+use Rattle.request.specs.declared.Check.the-variants.{Many, Wrong, Fenceless}
 use Rattle.request.specs.declared.Counts.{Counts}
+use Rattle.request.specs.declared.Mark.{Mark}
+use Rattle.request.specs.declared.Mark.the-variants.{Nd, Ed, Ru, Or}
 use Rattle.request.specs.declared.Reading.{Reading}
 use Rattle.request.specs.declared.Reading.the-variants.{Whole, Refused}
-use Rattle.request.specs.Layout.{layoutOf, limitsOf}
+use Rattle.graph.specs.Limits.{most-edges, most-nodes, most-orders, most-rules}
+use Rattle.request.specs.Layout.{counted, earlier, layoutOf, startOf, summed}
 use Rattle.request.specs.Earliest.{earliest, any}
 
 -- a number of two bytes, the low one first
-abbrev pub word : List ℕ → ℕ → ℕ
-word s at = getD s at 0 + 256 * getD s (at + 1) 0
+abbrev pub twoAt : List ℕ → ℕ → ℕ
+twoAt s at = getD s at 0 + 256 * getD s (at + 1) 0
+
+-- the pair of numbers that a record begins with, as one number
+pub record PairAt (s : List ℕ) (at r : ℕ) : Type 0 where
+  pub pair : r ≡ twoAt s (at + 2) + 65536 * twoAt s (at + 4)
+  pub low : twoAt s (at + 2) < 65536
 
 -- the pairs of numbers that two records begin with agree
 unfoldable pub samePair : List ℕ → ℕ → ℕ → Bool
-samePair s p q = eqb (word s (p + 2)) (word s (q + 2)) && eqb (word s (p + 4)) (word s (q + 4))
+samePair s p q = eqb (twoAt s (p + 2)) (twoAt s (q + 2)) && eqb (twoAt s (p + 4)) (twoAt s (q + 4))
 
 -- record i, of records of z bytes from `start` on, has the pair of an earlier one
 unfoldable pub repeated : List ℕ → ℕ → ℕ → ℕ → Bool
 repeated s start z i = any (λ j. samePair s (start + j * z) (start + i * z)) i
 
--- where the edges begin
-abbrev pub edgesAt : Counts → ℕ
-edgesAt cs = cs .nodes * 4
-
--- the rules, after the edges
-abbrev pub rulesAt : Counts → ℕ
-rulesAt cs = cs .nodes * 4 + cs .edges * 8
-
--- the orders, after the rules
-abbrev pub ordersAt : Counts → ℕ
-ordersAt cs = cs .nodes * 4 + cs .edges * 8 + cs .rules * 6
-
--- of edge i: its first end
-abbrev pub fromOf : List ℕ → Counts → ℕ → ℕ
-fromOf s cs i = word s (edgesAt cs + i * 8 + 2)
-
--- its second end
-abbrev pub toOf : List ℕ → Counts → ℕ → ℕ
-toOf s cs i = word s (edgesAt cs + i * 8 + 4)
-
--- its weight
-abbrev pub weightOf : List ℕ → Counts → ℕ → ℕ
-weightOf s cs i = word s (edgesAt cs + i * 8 + 6)
-
--- byte k of rule i, its mark counted
-abbrev pub ruleByte : List ℕ → Counts → ℕ → ℕ → ℕ
-ruleByte s cs i k = getD s (rulesAt cs + i * 6 + k) 0
-
--- of order i: its first node
-abbrev pub firstOf : List ℕ → Counts → ℕ → ℕ
-firstOf s cs i = word s (ordersAt cs + i * 6 + 2)
-
--- its second node
-abbrev pub secondOf : List ℕ → Counts → ℕ → ℕ
-secondOf s cs i = word s (ordersAt cs + i * 6 + 4)
-
--- kind above 2, or a fence with an address
+-- the node at an offset: kind above 2, or a fence with an address
 unfoldable pub badNode : List ℕ → ℕ → Bool
-badNode s i = ltb 2 (getD s (i * 4 + 2) 0) || (eqb (getD s (i * 4 + 2) 0) 2 && not (eqb (getD s (i * 4 + 3) 0) 0))
+badNode s at = ltb 2 (getD s (at + 2) 0) || (eqb (getD s (at + 2) 0) 2 && not (eqb (getD s (at + 3) 0) 0))
 
--- an end that is no node, weight 0, or the pair of an earlier edge
-unfoldable pub badEdge : List ℕ → Counts → ℕ → Bool
-badEdge s cs i = leb (cs .nodes) (fromOf s cs i) || (leb (cs .nodes) (toOf s cs i) || (eqb (weightOf s cs i) 0 || repeated s (edgesAt cs) 8 i))
+-- edge i, the edges beginning at `start`: an end that is none of the n nodes, weight 0, or the pair of an earlier edge
+unfoldable pub badEdge : List ℕ → ℕ → ℕ → ℕ → Bool
+badEdge s n start i =
+    leb n (twoAt s (start + i * 8 + 2)) || (leb n (twoAt s (start + i * 8 + 4)) || (eqb (twoAt s (start + i * 8 + 6)) 0 || repeated s start 8 i))
 
 -- a left side: kind above 3; a store's or a load's variable isn't 1; another's isn't 0
 unfoldable pub badLeft : ℕ → ℕ → Bool
@@ -78,46 +54,97 @@ unfoldable pub badRight : ℕ → ℕ → ℕ → Bool
 badRight left kind variable =
     ltb 3 kind || ((ltb kind 2 && (not (eqb variable 1) && (not (eqb variable 2) || leb 2 left))) || (leb 2 kind && not (eqb variable 0)))
 
--- a side of rule i is bad
-unfoldable pub badRule : List ℕ → Counts → ℕ → Bool
-badRule s cs i = badLeft (ruleByte s cs i 2) (ruleByte s cs i 3) || badRight (ruleByte s cs i 2) (ruleByte s cs i 4) (ruleByte s cs i 5)
+-- the rule at an offset: one of its sides is bad
+unfoldable pub badRule : List ℕ → ℕ → Bool
+badRule s at = badLeft (getD s (at + 2) 0) (getD s (at + 3) 0) || badRight (getD s (at + 2) 0) (getD s (at + 4) 0) (getD s (at + 5) 0)
 
--- a node that is missing, equal ends, or an earlier order again
-unfoldable pub badOrder : List ℕ → Counts → ℕ → Bool
-badOrder s cs i = leb (cs .nodes) (firstOf s cs i) || (leb (cs .nodes) (secondOf s cs i) || (eqb (firstOf s cs i) (secondOf s cs i) || repeated s (ordersAt cs) 6 i))
+-- order i, the orders beginning at `start`: an end that is none of the n nodes, equal ends, or an earlier order again
+unfoldable pub badOrder : List ℕ → ℕ → ℕ → ℕ → Bool
+badOrder s n start i =
+    leb n (twoAt s (start + i * 6 + 2))
+    || (leb n (twoAt s (start + i * 6 + 4)) || (eqb (twoAt s (start + i * 6 + 2)) (twoAt s (start + i * 6 + 4)) || repeated s start 6 i))
 
--- rule i leads from the one kind to the other
-unfoldable pub leads : List ℕ → Counts → ℕ → ℕ → ℕ → Bool
-leads s cs left right i = eqb (ruleByte s cs i 2) left && eqb (ruleByte s cs i 4) right
+-- the rule at an offset leads from the one kind to the other
+unfoldable pub leads : List ℕ → ℕ → ℕ → ℕ → Bool
+leads s left right at = eqb (getD s (at + 2) 0) left && eqb (getD s (at + 4) 0) right
+
+-- one of the n rules does, which begin at `start`
+abbrev pub someLeads : List ℕ → ℕ → ℕ → ℕ → ℕ → Bool
+someLeads s start n left right = any (λ i. leads s left right (start + i * 6)) n
+
+-- wildcard to fence or fence to wildcard is missing
+unfoldable pub noFences : List ℕ → ℕ → ℕ → Bool
+noFences s start n = not (someLeads s start n 3 2) || not (someLeads s start n 2 3)
 
 -- an answer where one of the n records of a kind, the first of them numbered `start`, is the first bad one; and else what follows
 unfoldable pub listed : Answer → ℕ → ℕ → ℕ → Reading → Reading
 listed answer start i n later = cond (ltb i n) (Refused answer (start + i)) later
 
--- answer 7: wildcard to fence and fence to wildcard
-unfoldable pub fencesFrom : List ℕ → Counts → Reading
-fencesFrom s cs = cond (any (leads s cs 3 2) (cs .rules) && any (leads s cs 2 3) (cs .rules)) (Whole cs) (Refused NoFenceRules 0)
+-- ---- the table of marks
 
--- answer 6, and then 7
-unfoldable pub ordersFrom : List ℕ → Counts → Reading
-ordersFrom s cs = listed BadOrder (cs .nodes + cs .edges + cs .rules) (earliest (badOrder s cs) (cs .orders)) (cs .orders) (fencesFrom s cs)
+-- the record number of the first of a mark
+abbrev pub numbered : Counts → Mark → ℕ
+numbered cs m = summed (counted cs) (earlier m)
 
--- answers 5 to 7
-unfoldable pub rulesFrom : List ℕ → Counts → Reading
-rulesFrom s cs = listed BadRule (cs .nodes + cs .edges) (earliest (badRule s cs) (cs .rules)) (cs .rules) (ordersFrom s cs)
+-- how many there may be
+abbrev pub most : Mark → ℕ
+most Nd = most-nodes
+most Ed = most-edges
+most Ru = most-rules
+most Or = most-orders
 
--- answers 4 to 7
-unfoldable pub edgesFrom : List ℕ → Counts → Reading
-edgesFrom s cs = listed BadEdge (cs .nodes) (earliest (badEdge s cs) (cs .edges)) (cs .edges) (rulesFrom s cs)
+-- the answer where one is wrong
+abbrev pub wrongAnswer : Mark → Answer
+wrongAnswer Nd = BadNode
+wrongAnswer Ed = BadEdge
+wrongAnswer Ru = BadRule
+wrongAnswer Or = BadOrder
 
--- answers 3 to 7
-unfoldable pub nodesFrom : List ℕ → Counts → Reading
-nodesFrom s cs = listed BadNode 0 (earliest (badNode s) (cs .nodes)) (cs .nodes) (edgesFrom s cs)
+-- record i of a mark is wrong, its records beginning at `start`, with n nodes
+abbrev pub badRecord : List ℕ → ℕ → Mark → ℕ → ℕ → Bool
+badRecord s n Nd start i = badNode s (start + i * 4)
+badRecord s n Ed start i = badEdge s n start i
+badRecord s n Ru start i = badRule s (start + i * 6)
+badRecord s n Or start i = badOrder s n start i
 
--- the first reading, if it refuses, else the second
-abbrev pub orElse : Reading → Reading → Reading
-orElse (Whole cs) r = r
-orElse (Refused a p) r = Refused a p
+-- ---- the checks: each looks at some records, one after the other
+
+-- the answer of a check
+abbrev pub answerTo : Check → Answer
+answerTo (Many m) = TooMany
+answerTo (Wrong m) = wrongAnswer m
+answerTo Fenceless = NoFenceRules
+
+-- the record number that it begins with
+abbrev pub startFor : Counts → Check → ℕ
+startFor cs (Many m) = numbered cs m
+startFor cs (Wrong m) = numbered cs m
+startFor cs Fenceless = 0
+
+-- how many records it looks at; the fence rules are looked for once
+abbrev pub countFor : Counts → Check → ℕ
+countFor cs (Many m) = counted cs m
+countFor cs (Wrong m) = counted cs m
+countFor cs Fenceless = 1
+
+-- it fails at the i-th of them
+abbrev pub failsAt : List ℕ → Counts → Check → ℕ → Bool
+failsAt s cs (Many m) i = leb (most m) i
+failsAt s cs (Wrong m) i = badRecord s (cs .nodes) m (startOf cs m) i
+failsAt s cs Fenceless i = noFences s (startOf cs Ru) (cs .rules)
+
+-- it fails at none of the first r of them, whatever the file has
+abbrev pub SureTo : Counts → Check → ℕ → Type 0
+SureTo cs c r = (r ≤ countFor cs c) × ((s : List ℕ) (k : ℕ) → k < r → failsAt s cs c k ≡ false)
+
+-- the first check that fails gives the answer
+unfoldable pub checked : List ℕ → Counts → List Check → Reading
+checked s cs [] = Whole cs
+checked s cs (c ∷ l) = listed (answerTo c) (startFor cs c) (earliest (failsAt s cs c) (countFor cs c)) (countFor cs c) (checked s cs l)
+
+-- by rank, and within it by place
+abbrev pub all-checks : List Check
+all-checks = Many Nd ∷ Many Ed ∷ Many Ru ∷ Many Or ∷ Wrong Nd ∷ Wrong Ed ∷ Wrong Ru ∷ Wrong Or ∷ Fenceless ∷ []
 
 -- a refusal stays; else what the counts say
 abbrev pub onWhole : Reading → (Counts → Reading) → Reading
@@ -126,4 +153,4 @@ onWhole (Refused a p) f = Refused a p
 
 -- the whole reading: the lowest answer, and its earliest place
 unfoldable pub readingOf : List ℕ → Reading
-readingOf s = onWhole (layoutOf s) (λ cs. orElse (limitsOf cs) (nodesFrom s cs))
+readingOf s = onWhole (layoutOf s) (λ cs. checked s cs all-checks)

@@ -1,19 +1,19 @@
-// What is wrong with a record, and the first of a mark with which something is.
-use super::Counts;
-use super::words;
+// What is wrong with a record.
+use super::Mark;
+use super::pairs;
 ghost use mathlib.Core.Path.{_≡_};
-ghost use Prim.Native.Nat.{_+_, _*_, _<_, _≤_};
+ghost use Prim.Native.Nat.{_+_, _*_, _≤_};
 ghost use lib.ListN.{length};
-ghost use Rattle.request.specs.Layout.{endOf};
-ghost use Rattle.request.specs.Earliest.{earliest};
-ghost use Rattle.request.specs.Tables.{badNode, badEdge, badLeft, badRight, badRule, badOrder};
+ghost use Rattle.request.specs.Layout.{width};
+ghost use Rattle.request.specs.Tables.{badNode, badEdge, badLeft, badRight, badRule, badOrder, badRecord};
 
-fn bad_node(file: &[u8], i: usize) -> bool
-    requires { ⌜ i * 4 + 4 ≤ length (now file) ⌝ }
-    ensures { λ r. ⌜ r ≡ badNode (now (file .entry)) i ⌝ }
+fn bad_node(file: &[u8], start: usize, i: usize) -> bool
+    requires { ⌜ start + i * 4 + 4 ≤ length (now file) ⌝ }
+    ensures { λ r. ⌜ r ≡ badNode (now (file .entry)) (start + i * 4) ⌝ }
 {
-    let kind = file[i * 4 + 2];
-    let address = file[i * 4 + 3];
+    let at = start + i * 4;
+    let kind = file[at + 2];
+    let address = file[at + 3];
     if 2 < kind {
         return true;
     }
@@ -26,51 +26,21 @@ fn bad_node(file: &[u8], i: usize) -> bool
     false
 }
 
-pub fn first_bad_node(file: &[u8], n: usize) -> usize
-    requires { ⌜ n * 4 ≤ length (now file) ⌝ }
-    ensures { λ r. ⌜ r ≡ earliest (badNode (now (file .entry))) n ⌝ }
+fn bad_edge(file: &[u8], n: usize, start: usize, i: usize) -> bool
+    requires { ⌜ start + i * 8 + 8 ≤ length (now file) ⌝ }
+    ensures { λ r. ⌜ r ≡ badEdge (now (file .entry)) n start i ⌝ }
 {
-    let mut i = 0;
-    while i < n {
-        if bad_node(file, i) {
-            return i;
-        }
-        i += 1;
-    }
-    i
-}
-
-fn bad_edge(file: &[u8], counts: Counts, i: usize) -> bool
-    requires { ⌜ (endOf counts + 2 ≡ length (now file)) × (i < counts .edges) ⌝ }
-    ensures { λ r. ⌜ r ≡ badEdge (now (file .entry)) counts i ⌝ }
-{
-    let n = counts.nodes;
-    let at = n * 4 + i * 8;
-    if n <= words::word_at(file, at + 2) {
+    let at = start + i * 8;
+    if n <= pairs::two_at(file, at + 2) {
         return true;
     }
-    if n <= words::word_at(file, at + 4) {
+    if n <= pairs::two_at(file, at + 4) {
         return true;
     }
-    if words::word_at(file, at + 6) == 0 {
+    if pairs::two_at(file, at + 6) == 0 {
         return true;
     }
-    words::repeats(file, n * 4, 8, i)
-}
-
-pub fn first_bad_edge(file: &[u8], counts: Counts) -> usize
-    requires { ⌜ endOf counts + 2 ≡ length (now file) ⌝ }
-    ensures { λ r. ⌜ r ≡ earliest (badEdge (now (file .entry)) counts) (counts .edges) ⌝ }
-{
-    let n = counts.edges;
-    let mut i = 0;
-    while i < n {
-        if bad_edge(file, counts, i) {
-            return i;
-        }
-        i += 1;
-    }
-    i
+    pairs::repeats(file, start, 8, i)
 }
 
 fn bad_left(kind: u8, variable: u8) -> bool
@@ -103,11 +73,11 @@ fn bad_right(left: u8, kind: u8, variable: u8) -> bool
     variable != 0
 }
 
-fn bad_rule(file: &[u8], counts: Counts, i: usize) -> bool
-    requires { ⌜ (endOf counts + 2 ≡ length (now file)) × (i < counts .rules) ⌝ }
-    ensures { λ r. ⌜ r ≡ badRule (now (file .entry)) counts i ⌝ }
+fn bad_rule(file: &[u8], start: usize, i: usize) -> bool
+    requires { ⌜ start + i * 6 + 6 ≤ length (now file) ⌝ }
+    ensures { λ r. ⌜ r ≡ badRule (now (file .entry)) (start + i * 6) ⌝ }
 {
-    let at = counts.nodes * 4 + counts.edges * 8 + i * 6;
+    let at = start + i * 6;
     let left = file[at + 2];
     if bad_left(left, file[at + 3]) {
         return true;
@@ -115,30 +85,13 @@ fn bad_rule(file: &[u8], counts: Counts, i: usize) -> bool
     bad_right(left, file[at + 4], file[at + 5])
 }
 
-pub fn first_bad_rule(file: &[u8], counts: Counts) -> usize
-    requires { ⌜ endOf counts + 2 ≡ length (now file) ⌝ }
-    ensures { λ r. ⌜ r ≡ earliest (badRule (now (file .entry)) counts) (counts .rules) ⌝ }
+fn bad_order(file: &[u8], n: usize, start: usize, i: usize) -> bool
+    requires { ⌜ start + i * 6 + 6 ≤ length (now file) ⌝ }
+    ensures { λ r. ⌜ r ≡ badOrder (now (file .entry)) n start i ⌝ }
 {
-    let n = counts.rules;
-    let mut i = 0;
-    while i < n {
-        if bad_rule(file, counts, i) {
-            return i;
-        }
-        i += 1;
-    }
-    i
-}
-
-fn bad_order(file: &[u8], counts: Counts, i: usize) -> bool
-    requires { ⌜ (endOf counts + 2 ≡ length (now file)) × (i < counts .orders) ⌝ }
-    ensures { λ r. ⌜ r ≡ badOrder (now (file .entry)) counts i ⌝ }
-{
-    let n = counts.nodes;
-    let start = n * 4 + counts.edges * 8 + counts.rules * 6;
     let at = start + i * 6;
-    let first = words::word_at(file, at + 2);
-    let second = words::word_at(file, at + 4);
+    let first = pairs::two_at(file, at + 2);
+    let second = pairs::two_at(file, at + 4);
     if n <= first {
         return true;
     }
@@ -148,20 +101,18 @@ fn bad_order(file: &[u8], counts: Counts, i: usize) -> bool
     if first == second {
         return true;
     }
-    words::repeats(file, start, 6, i)
+    pairs::repeats(file, start, 6, i)
 }
 
-pub fn first_bad_order(file: &[u8], counts: Counts) -> usize
-    requires { ⌜ endOf counts + 2 ≡ length (now file) ⌝ }
-    ensures { λ r. ⌜ r ≡ earliest (badOrder (now (file .entry)) counts) (counts .orders) ⌝ }
+// Whether record i of a mark is wrong, where its records begin at `start` and there are n nodes.
+pub fn bad_record(file: &[u8], n: usize, mark: Mark, start: usize, i: usize) -> bool
+    requires { ⌜ start + i * width mark + width mark ≤ length (now file) ⌝ }
+    ensures { λ r. ⌜ r ≡ badRecord (now (file .entry)) n mark start i ⌝ }
 {
-    let n = counts.orders;
-    let mut i = 0;
-    while i < n {
-        if bad_order(file, counts, i) {
-            return i;
-        }
-        i += 1;
+    match mark {
+        Mark::Nd => bad_node(file, start, i),
+        Mark::Ed => bad_edge(file, n, start, i),
+        Mark::Ru => bad_rule(file, start, i),
+        Mark::Or => bad_order(file, n, start, i),
     }
-    i
 }

@@ -1,12 +1,12 @@
-// Answers 1 and 2: how the records lie in the file, and how many there are of each.
+// Answer 1: how the records lie in the file, and how many there are of each.
 use super::Answer;
 use super::Counts;
+use super::Mark;
 use super::Reading;
-use graph::Graph;
 ghost use mathlib.Core.Path.{_≡_};
 ghost use Prim.Native.Nat.{_+_, _*_, _<_, _≤_};
 ghost use lib.ListN.{length};
-ghost use Rattle.request.specs.Layout.{recordAt, run, countsIn, endOf, layoutOf, limitsOf};
+ghost use Rattle.request.specs.Layout.{recordAt, inRow, countsIn, startOf, endOf, layoutOf};
 
 // Whether a whole record of this mark and size stands at an offset.
 fn has_record(file: &[u8], at: usize, a: u8, b: u8, size: usize) -> bool
@@ -27,10 +27,10 @@ fn has_record(file: &[u8], at: usize, a: u8, b: u8, size: usize) -> bool
 }
 
 // How many such records stand one after the other from an offset on.
-fn run_of(file: &[u8], at: usize, a: u8, b: u8, size: usize) -> usize
+fn in_row(file: &[u8], at: usize, a: u8, b: u8, size: usize) -> usize
     requires { ⌜ (2 ≤ size) × (size ≤ 8) ⌝ }
     requires { ⌜ at ≤ length (now file) ⌝ }
-    ensures count { λ r. ⌜ r ≡ run a b size (now (file .entry)) (length (now (file .entry))) at ⌝ }
+    ensures count { λ r. ⌜ r ≡ inRow a b size (now (file .entry)) (length (now (file .entry))) at ⌝ }
     ensures fits { λ r. ⌜ at + r * size ≤ length (now (file .entry)) ⌝ }
 {
     let mut k = 0;
@@ -45,10 +45,10 @@ fn run_of(file: &[u8], at: usize, a: u8, b: u8, size: usize) -> usize
 fn count(file: &[u8]) -> Counts
     ensures { λ r. ⌜ (r ≡ countsIn (now (file .entry))) × (endOf r ≤ length (now (file .entry))) ⌝ }
 {
-    let n = run_of(file, 0, b'N', b'D', 4);
-    let e = run_of(file, n * 4, b'E', b'D', 8);
-    let r = run_of(file, n * 4 + e * 8, b'R', b'U', 6);
-    let o = run_of(file, n * 4 + e * 8 + r * 6, b'O', b'R', 6);
+    let n = in_row(file, 0, b'N', b'D', 4);
+    let e = in_row(file, n * 4, b'E', b'D', 8);
+    let r = in_row(file, n * 4 + e * 8, b'R', b'U', 6);
+    let o = in_row(file, n * 4 + e * 8 + r * 6, b'O', b'R', 6);
     Counts {
         nodes: n,
         edges: e,
@@ -57,12 +57,25 @@ fn count(file: &[u8]) -> Counts
     }
 }
 
+// Where the records of a mark begin.
+pub fn start_of(counts: Counts, mark: Mark) -> usize
+    requires { ⌜ endOf counts < 9223372036854775808 ⌝ }
+    ensures { λ r. ⌜ r ≡ startOf counts mark ⌝ }
+{
+    match mark {
+        Mark::Nd => 0,
+        Mark::Ed => counts.nodes * 4,
+        Mark::Ru => counts.nodes * 4 + counts.edges * 8,
+        Mark::Or => counts.nodes * 4 + counts.edges * 8 + counts.rules * 6,
+    }
+}
+
 // Answer 1: marks, lengths, the end.
 pub fn marks(file: &[u8]) -> Reading
     ensures { λ r. ⌜ r ≡ layoutOf (now (file .entry)) ⌝ }
 {
     let counts = count(file);
-    let end = counts.nodes * 4 + counts.edges * 8 + counts.rules * 6 + counts.orders * 6;
+    let end = start_of(counts, Mark::Or) + counts.orders * 6;
     if has_record(file, end, b'E', b'N', 2) {
         if end + 2 == file.len() {
             Reading::Whole(counts)
@@ -72,27 +85,4 @@ pub fn marks(file: &[u8]) -> Reading
     } else {
         Reading::Refused(Answer::Unreadable, end)
     }
-}
-
-// Answer 2: the limits.
-pub fn limits(counts: Counts) -> Reading
-    requires { ⌜ counts .nodes + counts .edges + counts .rules + counts .orders < 9223372036854775808 ⌝ }
-    ensures { λ r. ⌜ r ≡ limitsOf counts ⌝ }
-{
-    if Graph::NODES < counts.nodes {
-        return Reading::Refused(Answer::TooMany, Graph::NODES);
-    }
-    if Graph::EDGES < counts.edges {
-        return Reading::Refused(Answer::TooMany, counts.nodes + Graph::EDGES);
-    }
-    if Graph::RULES < counts.rules {
-        return Reading::Refused(Answer::TooMany, counts.nodes + counts.edges + Graph::RULES);
-    }
-    if Graph::ORDERS < counts.orders {
-        return Reading::Refused(
-            Answer::TooMany,
-            counts.nodes + counts.edges + counts.rules + Graph::ORDERS,
-        );
-    }
-    Reading::Whole(counts)
 }

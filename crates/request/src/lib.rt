@@ -2,15 +2,16 @@
 mod bad;
 mod checks;
 mod layout;
+mod pairs;
 mod values;
-mod words;
 
 use graph::Graph;
 ghost use mathlib.Core.Path.{_≡_};
 ghost use Rattle.request.specs.Answers.{number};
 ghost use Rattle.request.specs.declared.Reading.the-variants.{Whole};
-ghost use Rattle.request.specs.Decode.{requestOf, Decoded};
 ghost use Rattle.request.specs.Outcome.{Answered};
+ghost use Rattle.request.specs.Value.{Ready, requestIn};
+ghost use Rattle.request.specs.Proper.{Reads};
 
 // How many records of each mark a file has.
 pub struct Counts {
@@ -18,6 +19,21 @@ pub struct Counts {
     pub edges: usize,
     pub rules: usize,
     pub orders: usize,
+}
+
+// The marks of the records, in the order of the file.
+pub enum Mark {
+    Nd,
+    Ed,
+    Ru,
+    Or,
+}
+
+// A check of the records: too many of a mark, a wrong one of it, a fence rule missing.
+pub enum Check {
+    Many(Mark),
+    Wrong(Mark),
+    Fenceless,
 }
 
 // The refusals of document 01's table, in its order.
@@ -68,25 +84,18 @@ pub fn read(file: &[u8]) -> Reading
     let Reading::Whole(counts) = marked else {
         return marked;
     };
-    let limited = layout::limits(counts);
-    let Reading::Whole(_) = limited else {
-        return limited;
-    };
-    checks::nodes(file, counts)
+    checks::run_checks(file, counts)
 }
 
 // The graph of an accepted file, by value.
 pub fn decode(file: &[u8], counts: Counts) -> Graph
     requires { ⌜ Answered (now file) (Whole counts) ⌝ }
-    ensures { λ r. ⌜ Decoded r (requestOf (now (file .entry)) counts) ⌝ }
+    ensures { λ r. ⌜ Reads (now (file .entry)) (requestIn r) × Ready r ⌝ }
 {
-    let edges_at = counts.nodes * 4;
-    let rules_at = edges_at + counts.edges * 8;
-    let orders_at = rules_at + counts.rules * 6;
-    let nodes = values::nodes(file, counts.nodes);
-    let edges = values::edges(file, edges_at, counts.edges);
-    let rules = values::rules(file, rules_at, counts.rules);
-    let orders = values::orders(file, orders_at, counts.orders);
+    let nodes = values::nodes(file, layout::start_of(counts, Mark::Nd), counts.nodes);
+    let edges = values::edges(file, layout::start_of(counts, Mark::Ed), counts.edges);
+    let rules = values::rules(file, layout::start_of(counts, Mark::Ru), counts.rules);
+    let orders = values::orders(file, layout::start_of(counts, Mark::Or), counts.orders);
     let mut g = Graph::empty();
     g.nodes = nodes;
     g.node_count = counts.nodes;

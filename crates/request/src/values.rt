@@ -1,5 +1,5 @@
 // The records of an accepted file as values: an array for each mark.
-use super::words;
+use super::pairs;
 use graph::Edge;
 use graph::Graph;
 use graph::Label;
@@ -11,14 +11,15 @@ ghost use mathlib.Core.Path.{_≡_};
 ghost use Prim.Native.Nat.{_+_, _*_, _≤_};
 ghost use lib.ListN.{length, take};
 ghost use Rattle.graph.specs.Limits.{most-nodes, most-edges, most-rules, most-orders};
-ghost use Rattle.request.specs.Decode.{labelOf, sideOf, nodeIn, ruleIn, edgeAt, orderAt, table};
-ghost use Rattle.request.specs.Tables.{word};
+ghost use Rattle.request.specs.declared.Mark.the-variants.{Ed, Or};
+ghost use Rattle.request.specs.Decode.{labelOf, sideOf, nodeIn, ruleIn, readAt, table};
+ghost use Rattle.request.specs.Tables.{twoAt};
 
 fn short_at(file: &[u8], at: usize) -> u16
     requires { ⌜ at + 2 ≤ length (now file) ⌝ }
-    ensures { λ r. ⌜ r ≡ word (now (file .entry)) at ⌝ }
+    ensures { λ r. ⌜ r ≡ twoAt (now (file .entry)) at ⌝ }
 {
-    words::word_at(file, at) as u16
+    pairs::two_at(file, at) as u16
 }
 
 fn label(kind: u8, address: u8) -> Label
@@ -43,16 +44,17 @@ fn side(kind: u8, variable: u8) -> Side
     Side::Is(l)
 }
 
-// The first n nodes.
-pub fn nodes(file: &[u8], n: usize) -> [Node; Graph::NODES]
-    requires { ⌜ (n ≤ most-nodes) × (n * 4 ≤ length (now file)) ⌝ }
-    ensures { λ r. ⌜ (take n r ≡ table nodeIn 4 (now (file .entry)) 0 n) × (length r ≡ most-nodes) ⌝ }
+// The first n nodes from an offset on.
+pub fn nodes(file: &[u8], start: usize, n: usize) -> [Node; Graph::NODES]
+    requires { ⌜ (n ≤ most-nodes) × (start + n * 4 ≤ length (now file)) ⌝ }
+    ensures { λ r. ⌜ (take n r ≡ table nodeIn 4 (now (file .entry)) start n) × (length r ≡ most-nodes) ⌝ }
 {
     let mut found = [Node {
         label: Label::Fence,
     }; Graph::NODES];
     for i in 0..n {
-        let l = label(file[i * 4 + 2], file[i * 4 + 3]);
+        let at = start + i * 4;
+        let l = label(file[at + 2], file[at + 3]);
         found[i] = Node { label: l };
     }
     found
@@ -61,7 +63,7 @@ pub fn nodes(file: &[u8], n: usize) -> [Node; Graph::NODES]
 // The first n edges from an offset on.
 pub fn edges(file: &[u8], start: usize, n: usize) -> [Edge; Graph::EDGES]
     requires { ⌜ (n ≤ most-edges) × (start + n * 8 ≤ length (now file)) ⌝ }
-    ensures { λ r. ⌜ (take n r ≡ table edgeAt 8 (now (file .entry)) start n) × (length r ≡ most-edges) ⌝ }
+    ensures { λ r. ⌜ (take n r ≡ table (readAt Ed) 8 (now (file .entry)) start n) × (length r ≡ most-edges) ⌝ }
 {
     let mut found = [Edge {
         from: 0,
@@ -100,7 +102,7 @@ pub fn rules(file: &[u8], start: usize, n: usize) -> [Rule; Graph::RULES]
 // The first n orders from an offset on.
 pub fn orders(file: &[u8], start: usize, n: usize) -> [Order; Graph::ORDERS]
     requires { ⌜ (n ≤ most-orders) × (start + n * 6 ≤ length (now file)) ⌝ }
-    ensures { λ r. ⌜ (take n r ≡ table orderAt 6 (now (file .entry)) start n) × (length r ≡ most-orders) ⌝ }
+    ensures { λ r. ⌜ (take n r ≡ table (readAt Or) 6 (now (file .entry)) start n) × (length r ≡ most-orders) ⌝ }
 {
     let mut found = [Order {
         first: 0,

@@ -3,7 +3,7 @@
 use mathlib.Core.Bool.{false}
 use mathlib.Core.List.{List, [], _∷_}
 use mathlib.Core.Logic.{_⊎_, inl, inr, _≢_}
-use mathlib.Core.Path.{_≡_, refl, ap, _∙_, subst, subst⁻¹}
+use mathlib.Core.Path.{_≡_, refl, ap, _∙_}
 use Prim.Native.Nat.{ℕ, zero, suc, _+_, _<_, _≤_}
 use native.Mathlib.Decide.{ℕ-discrete}
 use native.Mathlib.Omega.{arith}
@@ -38,17 +38,18 @@ unseen-set [] v y h f q = absurd (omega arith)
 unseen-set (x ∷ l) zero y h f q = let m : miss x ≡ 1 = ap miss f in omega (arith, m, miss-no y q)
 unseen-set (x ∷ l) (suc v) y h f q = omega (arith, unseen-set l v y (omega arith) f q)
 
-module _ (from to : List ℕ) where
-  -- where the edges of a net end
-  pub net-ends : Net from to → (length to ≤ most-edges) × ((e : ℕ) → e < length to → getD to e 0 < most-nodes)
-  net-ends net = (omega (arith, net .both, net .few), λ e h. net .head e (omega (arith, net .both, h)))
+-- where the edges of a net end
+pub net-ends : (from to : List ℕ) → Net from to → (length to ≤ most-edges) × ((e : ℕ) → e < length to → getD to e 0 < most-nodes)
+net-ends from to net = (omega (arith, net .both, net .few), λ e h. net .head e (omega (arith, net .both, h)))
 
+module _ (from to left : List ℕ) where
   -- where nothing leads on to what is reached, a way to it starts at what is reached
-  pub way-back : (left dist : List ℕ) → Shut from to left dist → (a : ℕ) (es : List ℕ) (b : ℕ) → Way from to (Remains left) a es b → getD dist b 0 < 65535 → getD dist a 0 < 65535
-  way-back left dist s a [] b w h = subst⁻¹ (λ (x : ℕ). getD dist x 0 < 65535) w h
-  way-back left dist s a (e ∷ es) b w h = subst (λ (x : ℕ). getD dist x 0 < 65535) (w .1) (s e (w .0) (w .2) (way-back left dist s (getD to e 0) es b (w .3) h))
+  pub way-back : (dist : List ℕ) → Shut from to left dist → (a : ℕ) (es : List ℕ) (b : ℕ) → Way from to (Remains left) a es b → getD dist b 0 < 65535
+      → getD dist a 0 < 65535
+  way-back dist s a [] b w h = omega (arith, at-same dist w)
+  way-back dist s a (e ∷ es) b w h = omega (arith, at-same dist (w .1), s e (w .0) (w .2) (way-back dist s (getD to e 0) es b (w .3) h))
 
   -- where nothing is left of the edges that end at b, a way to b has no edge
-  pub way-sealed : (left : List ℕ) (b : ℕ) → length to ≡ length from → Sealed to left b → (a : ℕ) (es : List ℕ) → Way from to (Remains left) a es b → a ≡ b
-  way-sealed left b both s a [] w = w
-  way-sealed left b both s a (e ∷ es) w = absurd (s e (omega (arith, both, w .0)) (way-sealed left b both s (getD to e 0) es (w .3)) (w .2))
+  pub way-sealed : (b : ℕ) → length to ≡ length from → Sealed to left b → (a : ℕ) (es : List ℕ) → Way from to (Remains left) a es b → a ≡ b
+  way-sealed b both s a [] w = w
+  way-sealed b both s a (e ∷ es) w = absurd (s e (omega (arith, both, w .0)) (way-sealed b both s (getD to e 0) es (w .3)) (w .2))

@@ -20,13 +20,13 @@ unseen [] = 0
 unseen (x ∷ l) = miss x + unseen l
 
 -- something is left of edge x, and it ends at a node that is k away
-abbrev pub Back : List ℕ → List ℕ → List ℕ → List ℕ → ℕ → ℕ → Type 0
-Back from to left dist k x = (x < length from) × Remains left x × (getD dist (getD to x 0) 0 ≡ k)
+abbrev pub Nearer : List ℕ → List ℕ → List ℕ → List ℕ → ℕ → ℕ → Type 0
+Nearer from to left dist k x = (x < length from) × Remains left x × (getD dist (getD to x 0) 0 ≡ k)
 
 -- a node that is reached is the goal, or via has an edge for it that ends nearer
 pub record Homeward (from to left : List ℕ) (goal : ℕ) (dist via : List ℕ) : Type 0 where
   pub home : (v : ℕ) → v < most-nodes → getD dist v 0 ≡ 0 → v ≡ goal
-  pub back : (v k : ℕ) → v < most-nodes → getD dist v 0 ≡ suc k → k < 65534 → Back from to left dist k (getD via v 0)
+  pub back : (v k : ℕ) → v < most-nodes → getD dist v 0 ≡ suc k → k < 65534 → Nearer from to left dist k (getD via v 0)
 
 -- the nodes reached are the first `count` of the queue; an edge to one of the first i of them, or one of the first e edges to node i, starts at a node that is reached
 pub record Spread (from to left : List ℕ) (goal : ℕ) (dist via queue : List ℕ) (count i e : ℕ) : Type 0 where

@@ -4,7 +4,7 @@ use mathlib.Core.List.{List, [], _∷_}
 use mathlib.Core.Path.{_≡_}
 use Prim.Native.Nat.{ℕ, _+_, _<_, _≤_}
 use lib.ListN.{length, getD}
-use Rattle.route.specs.declared.Route.{Route}
+use Rattle.route.specs.declared.EdgeRoute.{EdgeRoute}
 use Rattle.graph.specs.Limits.{most-nodes, most-edges}
 use Rattle.graph.specs.Scan.{FirstFrom}
 
@@ -16,7 +16,7 @@ pub record Net (from to : List ℕ) : Type 0 where
   pub head : (e : ℕ) → e < length from → getD to e 0 < most-nodes
 
 -- of the edges from lo on, each at the node that `to` has for it: an entry for each node has the first edge there, and then one for each edge the next at its node
-pub record Linked (to entries : List ℕ) (lo : ℕ) : Type 0 where
+pub record EdgeLists (to entries : List ℕ) (lo : ℕ) : Type 0 where
   pub first : (v : ℕ) → v < most-nodes → FirstFrom (λ e. getD to e 0 ≡ v) lo (length to) (getD entries v 0)
   pub next : (e : ℕ) → lo ≤ e → e < length to → FirstFrom (λ x. getD to x 0 ≡ getD to e 0) (e + 1) (length to) (getD entries (most-nodes + e) 0)
 
@@ -34,7 +34,7 @@ abbrev pub Sealed : List ℕ → List ℕ → ℕ → Type 0
 Sealed to left b = (e : ℕ) → e < length to → getD to e 0 ≡ b → Remains left e → ⊥
 
 -- no edge, and there is no way; or edges of which something is left
-pub record Found (from to left : List ℕ) (a b : ℕ) (r : Route) : Type 0 where
+pub record Found (from to left : List ℕ) (a b : ℕ) (r : EdgeRoute) : Type 0 where
   pub short : r .len ≤ most-nodes
   pub none : r .len ≡ 0 → (es : List ℕ) → Way from to (Remains left) a es b → ⊥
   pub edge : (k : ℕ) → k < r .len → (getD (r .edges) k 0 < length from) × Remains left (getD (r .edges) k 0)

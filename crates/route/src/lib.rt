@@ -6,7 +6,7 @@ ghost use mathlib.Core.Path.{_≡_};
 ghost use Prim.Native.Nat.{ℕ, _+_, _<_, _≤_};
 ghost use lib.ListN.{length, getD};
 ghost use Rattle.graph.specs.Limits.{most-nodes, most-edges};
-ghost use Rattle.route.specs.Way.{Net, Linked, Sealed, Found};
+ghost use Rattle.route.specs.Way.{Net, EdgeLists, Sealed, Found};
 ghost use Rattle.route.specs.Spread.{Homeward};
 
 // The edges at each node, as lists: an entry for each node has the first of them, and after these an entry for each edge has the next one at
@@ -17,7 +17,7 @@ pub struct Links {
 }
 
 // The edges of a route by their numbers, in order; none where len is 0.
-pub struct Route {
+pub struct EdgeRoute {
     pub edges: [u16; Graph::NODES],
     pub len: usize,
 }
@@ -31,7 +31,7 @@ pub fn wide(x: u16) -> usize
 // From the last edge down: each goes before those at the same node.
 pub fn link(to: &[u16]) -> Links
     requires { ⌜ (length (now to) ≤ most-edges) × ((e : ℕ) → e < length (now to) → getD (now to) e 0 < most-nodes) ⌝ }
-    ensures { λ r. ⌜ (length (r .entries) ≡ most-nodes + most-edges) × Linked (now (to .entry)) (r .entries) 0 ⌝ }
+    ensures { λ r. ⌜ (length (r .entries) ≡ most-nodes + most-edges) × EdgeLists (now (to .entry)) (r .entries) 0 ⌝ }
 {
     let n = to.len();
     let mut l = Links {
@@ -54,7 +54,7 @@ fn ends_left(
     left: &[u16; Graph::EDGES],
     goal: usize,
 ) -> bool
-    requires { ⌜ (length (now to) ≤ most-edges) × (goal < most-nodes) × Linked (now to) (now links) 0 ⌝ }
+    requires { ⌜ (length (now to) ≤ most-edges) × (goal < most-nodes) × EdgeLists (now to) (now links) 0 ⌝ }
     ensures { λ r. ⌜ (r ≡ false → Sealed (now (to .entry)) (now (left .entry)) goal) ⌝ }
 {
     let n = to.len();
@@ -109,7 +109,7 @@ pub fn find_route(
     goal: usize,
     out: &mut [u16; Graph::NODES],
 ) -> usize
-    requires { ⌜ Net (now from) (now to) × Linked (now to) (now links) 0 ⌝ }
+    requires { ⌜ Net (now from) (now to) × EdgeLists (now to) (now links) 0 ⌝ }
     requires { ⌜ (a < most-nodes) × (goal < most-nodes) × (a ≢ goal) ⌝ }
     requires { ⌜ length (now out) ≡ most-nodes ⌝ }
     ensures { λ r. ⌜ (length (now (out .exit)) ≡ most-nodes) × Found (now (from .entry)) (now (to .entry)) (now (left .entry)) a goal (record { edges = now (out .exit); len = r }) ⌝ }

@@ -1,7 +1,7 @@
 -- The words of a set, over any number of words: its flags, its count, a number put in or taken out, and two sets word by word.
 -- Assumes nothing.
 use mathlib.Core.List.{List, [], _∷_}
-use mathlib.Core.Path.{_≡_, refl, sym, ap, ap₂, _∙_, subst}
+use mathlib.Core.Path.{_≡_, refl, sym, ap, ap₂, _∙_}
 use Prim.Native.Nat.{ℕ, zero, suc, _+_, _-_, _*_, _/_, _%_, _^_, _<_, _≤_}
 use native.Mathlib.Decide.{ℕ-discrete}
 use native.Mathlib.Nat.{one-mul, mul-comm, add-zero, zero-lt-suc}
@@ -10,14 +10,20 @@ use native.Mathlib.Omega.{arith}
 use lib.Bits.{bitOr, bitAnd, bitXor, or-block, and-block, xor-block, and-lt, or-zero-r}
 use lib.Count.{ones, ones-cat, ones-le}
 use lib.Dec.{eqb}
-use lib.ListN.{length, getD, set, length-set}
+use lib.ListN.{length, getD, set, replicate, length-set}
 use lib.Pow.{pow-pos, pow-lt, pow-add, high, low, field, mod-mod-pow, shr-shr}
 use lib.Seq.{getD-set-same, getD-set-other}
+use mir.Val.{Fits}
+use mir.Syntax.{w64}
 use Rattle.flags.specs.Flag.{digit, flag, put, either, both, less}
 use Rattle.flags.proofs.Digit.{flag-zero}
 use Rattle.flags.proofs.Pair.{less-zero}
 use Rattle.flags.proofs.Put.{put-lt}
-use Rattle.sets.specs.Whole.{Small, whole, counted}
+use Rattle.sets.specs.Whole.{words, Small, whole, counted}
+
+-- each word has its digits
+pub fits-small : (ws : List ℕ) → ((i : ℕ) → Fits w64 (getD ws i 0)) → Small ws
+fits-small ws f i = f i .fits
 
 -- ---- the digits of a long word: those of its lowest word, then those of the rest
 
@@ -62,7 +68,7 @@ whole-at ws k s =
 
 counted-shift : (w : ℕ) (ws : List ℕ) (i : ℕ) → counted (w ∷ ws) (suc i) ≡ ones w + counted ws i
 counted-shift w ws zero = omega arith
-counted-shift w ws (suc i) = let e = counted-shift w ws i in omega (arith, e)
+counted-shift w ws (suc i) = omega (arith, counted-shift w ws i)
 
 pub counted-more : (ws : List ℕ) (i : ℕ) → counted ws (i + 1) ≡ counted ws i + ones (getD ws i 0)
 counted-more ws i = ap (counted ws) (add-one i)
@@ -71,10 +77,7 @@ pub whole-ones : (ws : List ℕ) → Small ws → ones (whole ws) ≡ counted ws
 unfolding whole ones
 whole-ones [] s = refl
 whole-ones (w ∷ ws) s =
-    let e : ones (whole ws * 2 ^ 64 + w) ≡ ones (whole ws) + ones w = ones-cat 64 (whole ws) w (s 0) in
-    let f : ones (whole ws) ≡ counted ws (length ws) = whole-ones ws (λ k. s (suc k)) in
-    let g : counted (w ∷ ws) (suc (length ws)) ≡ ones w + counted ws (length ws) = counted-shift w ws (length ws) in
-    e ∙ omega (arith, f, g)
+    ones-cat 64 (whole ws) w (s 0) ∙ omega (arith, whole-ones ws (λ k. s (suc k)), counted-shift w ws (length ws))
 
 counted-le : (ws : List ℕ) (n : ℕ) → Small ws → counted ws n ≤ n * 64
 counted-le ws zero s = omega arith
@@ -88,7 +91,7 @@ ones-most ws n e s = omega (arith, whole-ones ws s, counted-le ws (length ws) s,
 put-low : (a w j : ℕ) → w < 2 ^ 64 → j < 64 → a * 2 ^ 64 + put w j ≡ put (a * 2 ^ 64 + w) j
 unfolding put
 put-low a w j h l =
-    let one : 1 * 2 ^ j < 2 ^ 64 = subst (λ (x : ℕ). x < 2 ^ 64) (sym (one-mul (2 ^ j))) (pow-lt l) in
+    let one : 1 * 2 ^ j < 2 ^ 64 = rw one-mul (pow-lt l) in
     let z : 1 * 2 ^ j ≡ 0 * 2 ^ 64 + 1 * 2 ^ j = omega arith in
     sym (ap (bitOr (a * 2 ^ 64 + w)) z ∙ or-block 64 a 0 w (1 * 2 ^ j) h one ∙ ap (λ (x : ℕ). x * 2 ^ 64 + bitOr w (1 * 2 ^ j)) (or-zero-r a))
 
@@ -96,7 +99,8 @@ put-high : (a w k : ℕ) → w < 2 ^ 64 → put a k * 2 ^ 64 + w ≡ put (a * 2 
 unfolding put
 put-high a w k h =
     let e : 1 * 2 ^ k * 2 ^ 64 + 0 ≡ 1 * 2 ^ (64 + k) =
-    add-zero (1 * 2 ^ k * 2 ^ 64) ∙ ap (λ (x : ℕ). x * 2 ^ 64) (one-mul (2 ^ k)) ∙ mul-comm (2 ^ k) (2 ^ 64) ∙ sym (pow-add 2 64 k) ∙ sym (one-mul (2 ^ (64 + k))) in
+    add-zero (1 * 2 ^ k * 2 ^ 64) ∙ ap (λ (x : ℕ). x * 2 ^ 64) (one-mul (2 ^ k)) ∙ mul-comm (2 ^ k) (2 ^ 64) ∙ sym (pow-add 2 64 k)
+    ∙ sym (one-mul (2 ^ (64 + k))) in
     sym (ap (bitOr (a * 2 ^ 64 + w)) (sym e) ∙ or-block 64 a (1 * 2 ^ k) w 0 h (pow-pos 64) ∙ ap (λ (x : ℕ). bitOr a (1 * 2 ^ k) * 2 ^ 64 + x) (or-zero-r w))
 
 whole-put : (ws : List ℕ) (i j : ℕ) → Small ws → i < length ws → j < 64 → whole (set ws i (put (getD ws i 0) j)) ≡ put (whole ws) (i * 64 + j)
@@ -107,29 +111,32 @@ whole-put (w ∷ ws) zero j s h l =
     put-low (whole ws) w j (s 0) l ∙ ap (put (whole ws * 2 ^ 64 + w)) e
 whole-put (w ∷ ws) (suc i) j s h l =
     let e : 64 + (i * 64 + j) ≡ suc i * 64 + j = omega arith in
-    ap (λ (x : ℕ). x * 2 ^ 64 + w) (whole-put ws i j (λ k. s (suc k)) (omega (arith, h)) l) ∙ put-high (whole ws) w (i * 64 + j) (s 0) ∙ ap (put (whole ws * 2 ^ 64 + w)) e
+    ap (λ (x : ℕ). x * 2 ^ 64 + w) (whole-put ws i j (λ k. s (suc k)) (omega (arith, h)) l) ∙ put-high (whole ws) w (i * 64 + j) (s 0)
+    ∙ ap (put (whole ws * 2 ^ 64 + w)) e
 
 small-put : (ws : List ℕ) (i j : ℕ) → Small ws → i < length ws → j < 64 → Small (set ws i (put (getD ws i 0) j))
-small-put ws i j s h l k = go (ℕ-discrete k i)
-  where
-    go : Dec (k ≡ i) → getD (set ws i (put (getD ws i 0) j)) k 0 < 2 ^ 64
-    go (yes p) = rw (p, getD-set-same ws i (put (getD ws i 0) j) 0 h) (put-lt (getD ws i 0) j (s i) l)
-    go (no n) = rw (getD-set-other ws i k (put (getD ws i 0) j) 0 n) (s k)
+small-put ws i j s h l k = elim (ℕ-discrete k i) [
+  | yes p ↦ rw (p, getD-set-same ws i (put (getD ws i 0) j) 0 h) (put-lt (getD ws i 0) j (s i) l)
+  | no n ↦ rw (getD-set-other ws i k (put (getD ws i 0) j) 0 n) (s k)
+]
 
 -- the same by the number itself: k is put in word k / 64, and n words have room for it
-pub put-whole : (n : ℕ) (ws : List ℕ) (k : ℕ) → length ws ≡ n → Small ws → k < n * 64
-    → (whole (set ws (k / 64) (put (getD ws (k / 64) 0) (k % 64))) ≡ put (whole ws) k) × (ones (whole (set ws (k / 64) (put (getD ws (k / 64) 0) (k % 64)))) ≤ n * 64)
-put-whole n ws k len s h =
+pub put-whole : (n : ℕ) (ws : List ℕ) (k : ℕ) → (length ws ≡ n) × Small ws → k < n * 64
+    → (whole (set ws (k / 64) (put (getD ws (k / 64) 0) (k % 64))) ≡ put (whole ws) k)
+    × (ones (whole (set ws (k / 64) (put (getD ws (k / 64) 0) (k % 64)))) ≤ n * 64)
+put-whole n ws k (len, s) h =
     let i = k / 64 in
     let j = k % 64 in
     let at : i < length ws = omega (arith, len, h) in
     let low′ : j < 64 = omega arith in
-    let is : i * 64 + j ≡ k = omega arith in
-    (whole-put ws i j s at low′ ∙ ap (put (whole ws)) is, ones-most (set ws i (put (getD ws i 0) j)) n (length-set ws i (put (getD ws i 0) j) ∙ len) (small-put ws i j s at low′))
+    let is : i * 64 + j ≡ k = omega arith in (
+      whole-put ws i j s at low′ ∙ ap (put (whole ws)) is,
+      ones-most (set ws i (put (getD ws i 0) j)) n (length-set ws i (put (getD ws i 0) j) ∙ len) (small-put ws i j s at low′),
+    )
 
 -- ---- a number taken out
 
-pub less-block : (a b r s : ℕ) → r < 2 ^ 64 → s < 2 ^ 64 → less (a * 2 ^ 64 + r) (b * 2 ^ 64 + s) ≡ less a b * 2 ^ 64 + less r s
+less-block : (a b r s : ℕ) → r < 2 ^ 64 → s < 2 ^ 64 → less (a * 2 ^ 64 + r) (b * 2 ^ 64 + s) ≡ less a b * 2 ^ 64 + less r s
 unfolding less
 less-block a b r s p q = ap (bitXor (a * 2 ^ 64 + r)) (and-block 64 a b r s p q) ∙ xor-block 64 a (bitAnd a b) r (bitAnd r s) p (and-lt 64 r s p q)
 
@@ -146,66 +153,74 @@ whole-out [] i j s h l = absurd (omega (arith, h))
 whole-out (w ∷ ws) zero j s h l =
     let e : j ≡ 0 * 64 + j = omega arith in
     ap (λ (x : ℕ). x * 2 ^ 64 + less w (put 0 j)) (sym (less-zero (whole ws)))
-    ∙ sym (ap (less (whole ws * 2 ^ 64 + w)) (one-low j) ∙ less-block (whole ws) 0 w (put 0 j) (s 0) (put-lt 0 j (pow-pos 64) l)) ∙ ap (λ (x : ℕ). less (whole ws * 2 ^ 64 + w) (put 0 x)) e
+    ∙ sym (ap (less (whole ws * 2 ^ 64 + w)) (one-low j) ∙ less-block (whole ws) 0 w (put 0 j) (s 0) (put-lt 0 j (pow-pos 64) l))
+    ∙ ap (λ (x : ℕ). less (whole ws * 2 ^ 64 + w) (put 0 x)) e
 whole-out (w ∷ ws) (suc i) j s h l =
     let e : 64 + (i * 64 + j) ≡ suc i * 64 + j = omega arith in
     ap₂ (λ (x y : ℕ). x * 2 ^ 64 + y) (whole-out ws i j (λ k. s (suc k)) (omega (arith, h)) l) (sym (less-zero w))
-    ∙ sym (ap (less (whole ws * 2 ^ 64 + w)) (one-high (i * 64 + j)) ∙ less-block (whole ws) (put 0 (i * 64 + j)) w 0 (s 0) (pow-pos 64)) ∙ ap (λ (x : ℕ). less (whole ws * 2 ^ 64 + w) (put 0 x)) e
+    ∙ sym (ap (less (whole ws * 2 ^ 64 + w)) (one-high (i * 64 + j)) ∙ less-block (whole ws) (put 0 (i * 64 + j)) w 0 (s 0) (pow-pos 64))
+    ∙ ap (λ (x : ℕ). less (whole ws * 2 ^ 64 + w) (put 0 x)) e
 
 -- the same by the number itself
-pub out-whole : (n : ℕ) (ws : List ℕ) (k : ℕ) → length ws ≡ n → Small ws → k < n * 64 → whole (set ws (k / 64) (less (getD ws (k / 64) 0) (put 0 (k % 64)))) ≡ less (whole ws) (put 0 k)
-out-whole n ws k len s h =
+pub out-whole : (n : ℕ) (ws : List ℕ) (k : ℕ) → (length ws ≡ n) × Small ws → k < n * 64
+    → whole (set ws (k / 64) (less (getD ws (k / 64) 0) (put 0 (k % 64)))) ≡ less (whole ws) (put 0 k)
+out-whole n ws k (len, s) h =
     let is : k / 64 * 64 + k % 64 ≡ k = omega arith in
     whole-out ws (k / 64) (k % 64) s (omega (arith, len, h)) (omega arith) ∙ ap (λ (x : ℕ). less (whole ws) (put 0 x)) is
 
 -- ---- two sets, word by word: what is done to the words is done to the sets
 
-module _ (op : ℕ → ℕ → ℕ) where
-  -- the first i words of r are made from those of a and b
-  abbrev pub Made : List ℕ → List ℕ → ℕ → List ℕ → Type 0
-  Made a b i r = (j : ℕ) → j < i → getD r j 0 ≡ op (getD a j 0) (getD b j 0)
+-- the first i words of r are made from those of a and b
+pub record WordsMade (op : ℕ → ℕ → ℕ) (a b : List ℕ) (i : ℕ) (r : List ℕ) : Type 0 where
+  pub within : i ≤ words
+  pub long : length r ≡ words
+  pub made : (j : ℕ) → j < i → getD r j 0 ≡ op (getD a j 0) (getD b j 0)
 
-  pub made-none : (a b r : List ℕ) → Made a b 0 r
-  made-none a b r j h = absurd (omega (arith, h))
+-- an operation that goes word by word
+pub record Wordwise (op : ℕ → ℕ → ℕ) : Type 0 where
+  pub nothing : op 0 0 ≡ 0
+  pub block : (a b r s : ℕ) → r < 2 ^ 64 → s < 2 ^ 64 → op (a * 2 ^ 64 + r) (b * 2 ^ 64 + s) ≡ op a b * 2 ^ 64 + op r s
 
-  pub made-more : (a b r : List ℕ) (i w : ℕ) → i < length r → w ≡ op (getD a i 0) (getD b i 0) → Made a b i r → Made a b (i + 1) (set r i w)
-  made-more a b r i w h e m j l = go (ℕ-discrete j i)
+module _ {op : ℕ → ℕ → ℕ} where
+  pub made-none : {a b : List ℕ} → WordsMade op a b 0 (replicate words 0)
+  made-none = record { within = omega arith; long = refl; made = λ j h. absurd (omega (arith, h)) }
+
+  pub made-more : {a b r : List ℕ} {i : ℕ} (w : ℕ) → i < words → w ≡ op (getD a i 0) (getD b i 0) → WordsMade op a b i r → WordsMade op a b (i + 1) (set r i w)
+  made-more {a} {b} {r} {i} w h e was = record { within = omega (arith, h); long = length-set r i w ∙ was .long; made = λ j l. go j l (ℕ-discrete j i) }
     where
-      go : Dec (j ≡ i) → getD (set r i w) j 0 ≡ op (getD a j 0) (getD b j 0)
-      go (yes p) = rw p (getD-set-same r i w 0 h ∙ e)
-      go (no n) = getD-set-other r i j w 0 n ∙ m j (omega arith)
+      go : (j : ℕ) → j < i + 1 → Dec (j ≡ i) → getD (set r i w) j 0 ≡ op (getD a j 0) (getD b j 0)
+      go j l (yes p) = rw p (getD-set-same r i w 0 (omega (arith, h, was .long)) ∙ e)
+      go j l (no n) = getD-set-other r i j w 0 n ∙ was .made j (omega arith)
 
-  module _ (nothing : op 0 0 ≡ 0) (block : (a b r s : ℕ) → r < 2 ^ 64 → s < 2 ^ 64 → op (a * 2 ^ 64 + r) (b * 2 ^ 64 + s) ≡ op a b * 2 ^ 64 + op r s) where
-    pub whole-op : (a b r : List ℕ) (n : ℕ) → length a ≡ n → length b ≡ n → length r ≡ n → Small a → Small b → Made a b n r → whole r ≡ op (whole a) (whole b)
-    unfolding whole
-    whole-op [] [] [] n p q l s t m = sym nothing
-    whole-op [] [] (z ∷ r) n p q l s t m = absurd (omega (arith, p, l))
-    whole-op [] (y ∷ b) r n p q l s t m = absurd (omega (arith, p, q))
-    whole-op (x ∷ a) [] r n p q l s t m = absurd (omega (arith, p, q))
-    whole-op (x ∷ a) (y ∷ b) [] n p q l s t m = absurd (omega (arith, p, l))
-    whole-op (x ∷ a) (y ∷ b) (z ∷ r) zero p q l s t m = absurd (omega (arith, p))
-    whole-op (x ∷ a) (y ∷ b) (z ∷ r) (suc n) p q l s t m =
-        ap₂ (λ (u v : ℕ). u * 2 ^ 64 + v)
-        (whole-op a b r n (omega (arith, p)) (omega (arith, q)) (omega (arith, l)) (λ k. s (suc k)) (λ k. t (suc k)) (λ j h. m (suc j) (omega (arith, h))))
-        (m 0 (zero-lt-suc n))
-        ∙ sym (block (whole a) (whole b) x y (s 0) (t 0))
+  all-words : Wordwise op → (a b r : List ℕ) (n : ℕ) → length a ≡ n → length b ≡ n → length r ≡ n → Small a → Small b
+      → ((j : ℕ) → j < n → getD r j 0 ≡ op (getD a j 0) (getD b j 0))
+      → whole r ≡ op (whole a) (whole b)
+  unfolding whole
+  all-words o [] [] [] n p q l s t m = sym (o .nothing)
+  all-words o [] [] (z ∷ r) n p q l s t m = absurd (omega (arith, p, l))
+  all-words o [] (y ∷ b) r n p q l s t m = absurd (omega (arith, p, q))
+  all-words o (x ∷ a) [] r n p q l s t m = absurd (omega (arith, p, q))
+  all-words o (x ∷ a) (y ∷ b) [] n p q l s t m = absurd (omega (arith, p, l))
+  all-words o (x ∷ a) (y ∷ b) (z ∷ r) zero p q l s t m = absurd (omega (arith, p))
+  all-words o (x ∷ a) (y ∷ b) (z ∷ r) (suc n) p q l s t m =
+      ap₂ (λ (u v : ℕ). u * 2 ^ 64 + v)
+      (all-words o a b r n (omega (arith, p)) (omega (arith, q)) (omega (arith, l)) (λ k. s (suc k)) (λ k. t (suc k)) (λ j h. m (suc j) (omega (arith, h))))
+      (m 0 (zero-lt-suc n))
+      ∙ sym (o .block (whole a) (whole b) x y (s 0) (t 0))
 
-pub either-block : (a b r s : ℕ) → r < 2 ^ 64 → s < 2 ^ 64 → either (a * 2 ^ 64 + r) (b * 2 ^ 64 + s) ≡ either a b * 2 ^ 64 + either r s
+  pub made-all : {a b r : List ℕ} {i : ℕ} → Wordwise op → WordsMade op a b i r → words ≤ i → length a ≡ words → length b ≡ words
+      → ((j : ℕ) → Fits w64 (getD a j 0)) → ((j : ℕ) → Fits w64 (getD b j 0)) → whole r ≡ op (whole a) (whole b)
+  made-all {a} {b} {r} o was end p q s t =
+      all-words o a b r words p q (was .long) (fits-small a s) (fits-small b t) (λ j h. was .made j (omega (arith, h, end)))
+
+pub either-words : Wordwise either
 unfolding either
-either-block a b r s p q = or-block 64 a b r s p q
+either-words = record { nothing = refl; block = λ a b r s p q. or-block 64 a b r s p q }
 
-pub both-block : (a b r s : ℕ) → r < 2 ^ 64 → s < 2 ^ 64 → both (a * 2 ^ 64 + r) (b * 2 ^ 64 + s) ≡ both a b * 2 ^ 64 + both r s
+pub both-words : Wordwise both
 unfolding both
-both-block a b r s p q = and-block 64 a b r s p q
+both-words = record { nothing = refl; block = λ a b r s p q. and-block 64 a b r s p q }
 
-pub either-none : either 0 0 ≡ 0
-unfolding either
-either-none = refl
-
-pub both-none : both 0 0 ≡ 0
-unfolding both
-both-none = refl
-
-pub less-none : less 0 0 ≡ 0
+pub less-words : Wordwise less
 unfolding less
-less-none = refl
+less-words = record { nothing = refl; block = less-block }

@@ -42,7 +42,7 @@ pub record Lowest (a b k : ℕ) : Type 0 where
   pub first : (j : ℕ) → j < k → flag a j ≡ true → flag b j ≡ true
 
 -- k is the lowest that is in a and not in b; where all of a is in b it is as many as a set can have
-pub record Leads (a b k : ℕ) : Type 0 where
+pub record LowestOf (a b k : ℕ) : Type 0 where
   pub one : (k ≡ most → ⊥) → Lowest a b k
   pub none : k ≡ most → (j : ℕ) → flag a j ≡ true → flag b j ≡ true
 

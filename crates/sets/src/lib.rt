@@ -6,7 +6,7 @@ ghost use Prim.Native.Nat.{_<_, _≤_};
 ghost use lib.Count.{ones};
 ghost use lib.ListN.{length};
 ghost use Rattle.flags.specs.Flag.{flag, put, either, both, less};
-ghost use Rattle.sets.specs.Whole.{words, whole, Small, most, Leads, Ahead};
+ghost use Rattle.sets.specs.Whole.{words, whole, Small, most, LowestOf, Ahead};
 
 // How many words a set has.
 pub const WORDS: usize = 8;
@@ -111,7 +111,7 @@ pub fn without(a: Set, b: Set) -> Set
 
 // The lowest number that is in a and not in b; where there is none, how many a set can have.
 pub fn lowest(a: Set, b: Set) -> usize
-    ensures { λ r. ⌜ Leads (whole a) (whole b) r ⌝ }
+    ensures { λ r. ⌜ LowestOf (whole a) (whole b) r ⌝ }
 {
     for i in 0..WORDS {
         let left = flags::without(a[i], b[i]);

@@ -13,8 +13,8 @@ use Rattle.flags.specs.Flag.{flag, put}
 use Rattle.graph.specs.Held.{Absent, NoneTwice, Ordered}
 use Rattle.graph.specs.Limits.{most-nodes}
 use Rattle.graph.proofs.Walked.{each-append, none-twice-join}
-use Rattle.hope.specs.Rest.{mark}
-use Rattle.hope.proofs.Rest.{mark-keeps}
+use Rattle.step.specs.Rest.{mark}
+use Rattle.step.proofs.Rest.{mark-keeps}
 use Rattle.route.specs.Way.{Remains}
 use Rattle.walk.proofs.Carried.{Carried, carried-start, carried-on}
 use Rattle.walk.specs.Asked.{Lists}
@@ -63,9 +63,9 @@ module _ (from to fits edges : List ℕ) (a : ℕ) where
   }
 
   -- one edge more, to a node that has not been seen
-  pub gone-on : (seen after at i v : ℕ) → Gone seen after at i → getD edges i 0 < length from
+  pub gone-on : {seen after at i v : ℕ} → Gone seen after at i → getD edges i 0 < length from
       → getD from (getD edges i 0) 0 ≡ at → getD to (getD edges i 0) 0 ≡ v → flag seen v ≡ false → Gone (put seen v) (mark fits after v) v (i + 1)
-  gone-on seen after at i v g f p q new = record {
+  gone-on {seen} {after} {at} {i} {v} g f p q new = record {
     es = g .es ++ getD edges i 0 ∷ [];
     long = omega (arith, length-append (g .es) (getD edges i 0 ∷ []), g .long);
     firsts = below-more (λ k. getD (g .es ++ getD edges i 0 ∷ []) k 0 ≡ getD edges k 0) i
@@ -76,17 +76,19 @@ module _ (from to fits edges : List ℕ) (a : ℕ) where
     carried = carried-on fits a v (g .carried);
     same = λ k n. each-append (λ y. k ≢ y) (a ∷ g .passed) (v ∷ []) (g .same k (n .1)) (n .0, tt);
     once = none-twice-join (a ∷ g .passed) (v ∷ []) (g .once) (tt, tt) (g .same v (g .carried .new v new), tt);
-    come = inr (record { between = g .passed; ends = refl; chain = λ left u. more left u (g .come); late = λ o. mark-keeps fits after v v (g .carried .lates v o) });
+    come = inr
+        (record { between = g .passed; ends = refl; chain = λ left u. more left u (g .come); late = λ o. mark-keeps fits after v v (g .carried .lates v o) });
   }
     where
-      more : (left : List ℕ) → Usable left (i + 1) → Come (g .es) (g .passed) i at after → Chain (Goes from to (Remains left)) a (g .es ++ getD edges i 0 ∷ []) (g .passed) v
+      more : (left : List ℕ) → Usable left (i + 1) → Come (g .es) (g .passed) i at after
+          → Chain (Goes from to (Remains left)) a (g .es ++ getD edges i 0 ∷ []) (g .passed) v
       more left u (inl (z, n, s)) = rw (z, n) (last (f, u i (omega arith), p ∙ s, q))
       more left u (inr d) = rw (d .ends) (chain-join _ (d .chain left (λ k h. u k (omega (arith, h)))) (f, u i (omega arith), p, q))
 
   -- all n edges have been gone, to the goal, and nothing orders it
-  pub gone-end : (seen after goal n : ℕ) → Gone seen after goal n → 0 < n → n ≤ most-nodes → flag after goal ≡ false
+  pub gone-end : {seen after goal n : ℕ} → Gone seen after goal n → 0 < n → n ≤ most-nodes → flag after goal ≡ false
       → (left : List ℕ) → Usable left n → FoundUnordered from to fits left a goal (record { edges = edges; len = n })
-  gone-end seen after goal n g pos few out left u = record {
+  gone-end {seen} {after} {goal} {n} g pos few out left u = record {
     short = few;
     none = λ z. absurd (omega (arith, z, pos));
     edge = λ k h. subst (λ (x : ℕ). (x < length from) × Remains left x) (g .firsts k h) (found .edge k h);

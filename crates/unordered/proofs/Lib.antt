@@ -1,6 +1,6 @@
 -- The mathematics of the search for an unordered route.
 pub mod Looked
-pub mod Filled
+pub mod WrittenBack
 pub mod Trails
 pub mod Turns
 pub mod Judged

@@ -12,8 +12,8 @@ pub record LastOf (nodes : List ℕ) (y n h : ℕ) : Type 0 where
   pub all : (j : ℕ) → j < n → getD nodes j 0 ≡ y → j < h
 
 -- for each of the first n pairs `prior` has the last one before it that has its node
-abbrev pub Rows : List ℕ → List ℕ → ℕ → Type 0
-Rows nodes prior n = (j : ℕ) → j < n → LastOf nodes (getD nodes j 0) j (getD prior j 0)
+abbrev pub Priors : List ℕ → List ℕ → ℕ → Type 0
+Priors nodes prior n = (j : ℕ) → j < n → LastOf nodes (getD nodes j 0) j (getD prior j 0)
 
 -- pair j was come to by the edges es, the one in `via` being the last; the first pair by none
 pub data Trail (via parent : List ℕ) : ℕ → List ℕ → Type 0 where

@@ -1,11 +1,11 @@
 // The test of a route that is proposed by its edges.
 use graph::Graph;
-use hope::mark_on;
 use route::wide;
 use sets::has;
 use sets::none;
 use sets::put_in;
 use sets::with;
+use step::mark_on;
 use words::Sets;
 ghost use mathlib.Core.Bool.{true};
 ghost use mathlib.Core.List.{List};

@@ -12,7 +12,7 @@ ghost use Prim.Native.Nat.{_<_};
 ghost use lib.ListN.{length};
 ghost use Rattle.graph.specs.Limits.{most-nodes};
 ghost use Rattle.sets.specs.Whole.{rows};
-ghost use Rattle.route.specs.Way.{Net, Linked};
+ghost use Rattle.route.specs.Way.{Net, EdgeLists};
 ghost use Rattle.walked.specs.Unordered.{FoundUnordered};
 
 // The edges of a route from a to goal that does not order its ends and on which no edge is gone: an edge with nothing left is. They are
@@ -30,7 +30,7 @@ pub fn find_route(
     kept: &mut Sets,
     out: &mut [u16; Graph::NODES],
 ) -> usize
-    requires { ⌜ Net (now from) (now to) × Linked (now to) (now ins) 0 × Linked (now from) (now outs) 0 ⌝ }
+    requires { ⌜ Net (now from) (now to) × EdgeLists (now to) (now ins) 0 × EdgeLists (now from) (now outs) 0 ⌝ }
     requires { ⌜ (a < most-nodes) × (goal < most-nodes) × (a ≢ goal) ⌝ }
     requires { ⌜ length (now out) ≡ most-nodes ⌝ }
     ensures { λ r. ⌜ (length (now (out .exit)) ≡ most-nodes) × FoundUnordered (now (from .entry)) (now (to .entry)) (rows (now (fits .entry))) (now (left .entry)) a goal (record { edges = now (out .exit); len = r }) ⌝ }

@@ -1,11 +1,11 @@
 // The search over pairs of a node and what is ordered after the first when a route comes there. A pair is left out where an earlier one of its
 // node has a set within its own: what goes on from the one goes on from the other, and no way back to the first goes over a node twice.
 use graph::Graph;
-use hope::marked;
 use route::wide;
 use sets::Set;
 use sets::has;
 use sets::lowest;
+use step::marked;
 use walked::walked_route;
 use words::Sets;
 ghost use mathlib.Core.Bool.{true, false};
@@ -15,11 +15,11 @@ ghost use mathlib.Core.Path.{_≡_};
 ghost use Prim.Native.Nat.{ℕ, _+_, _<_, _≤_};
 ghost use lib.ListN.{length, getD, take};
 ghost use Rattle.graph.specs.Limits.{most-nodes, most-edges};
-ghost use Rattle.hope.specs.Hope.{Known, most-pairs};
+ghost use Rattle.hope.specs.Hope.{Dominated, most-pairs};
 ghost use Rattle.sets.specs.Whole.{whole, rows};
-ghost use Rattle.route.specs.Way.{Net, Linked};
+ghost use Rattle.route.specs.Way.{Net, EdgeLists};
 ghost use Rattle.walked.specs.Unordered.{FoundUnordered};
-ghost use Rattle.unordered.specs.Pairs.{LastOf, Rows, Trail};
+ghost use Rattle.unordered.specs.Pairs.{LastOf, Priors, Trail};
 
 // How many pairs are kept before the walk is asked instead.
 const PAIRS: usize = Graph::NODES;
@@ -27,7 +27,7 @@ const PAIRS: usize = Graph::NODES;
 // Whether a pair of this node has a set within w. The last of them is pair head - 1, and each has the one before it in `prior`, in the same way.
 fn known(kept: &Sets, prior: &[u16; PAIRS], head: usize, w: Set) -> bool
     requires { ⌜ (head ≤ most-pairs) × ((j : ℕ) → j < head → getD (now prior) j 0 ≤ j) ⌝ }
-    ensures { λ r. ⌜ ((nodes : List ℕ) (y n : ℕ) → LastOf nodes y n head → Rows nodes (now (prior .entry)) n → (r ≡ true → Known nodes (rows (now (kept .entry))) n y (whole w)) × (r ≡ false → Known nodes (rows (now (kept .entry))) n y (whole w) → ⊥)) ⌝ }
+    ensures { λ r. ⌜ ((nodes : List ℕ) (y n : ℕ) → LastOf nodes y n head → Priors nodes (now (prior .entry)) n → (r ≡ true → Dominated nodes (rows (now (kept .entry))) n y (whole w)) × (r ≡ false → Dominated nodes (rows (now (kept .entry))) n y (whole w) → ⊥)) ⌝ }
 {
     let mut h = head;
     while 0 < h {
@@ -94,7 +94,7 @@ pub fn spread(
     kept: &mut Sets,
     out: &mut [u16; Graph::NODES],
 ) -> usize
-    requires { ⌜ Net (now from) (now to) × Linked (now from) (now links) 0 ⌝ }
+    requires { ⌜ Net (now from) (now to) × EdgeLists (now from) (now links) 0 ⌝ }
     requires { ⌜ (a < most-nodes) × (goal < most-nodes) × (a ≢ goal) ⌝ }
     requires { ⌜ (length (now kept) ≡ most-pairs) × (length (now out) ≡ most-nodes) ⌝ }
     ensures { λ r. ⌜ (length (now (out .exit)) ≡ most-nodes) × FoundUnordered (now (from .entry)) (now (to .entry)) (rows (now (fits .entry))) (now (left .entry)) a goal (record { edges = now (out .exit); len = r }) ⌝ }

@@ -1,17 +1,15 @@
 -- Sought: what the search at the first node says of the routes by the tables. Each orders its ends, or it is one that is sought.
 -- Assumes nothing.
-use mathlib.Core.Bool.{Bool, true}
 use mathlib.Core.List.{List, [], _∷_, _++_}
 use mathlib.Core.Logic.{_⊎_, ⊎-elim}
 use mathlib.Core.Path.{_≡_, ap, subst⁻¹, _∙_}
 use Prim.Native.Nat.{ℕ}
-use lib.ListN.{getD, take}
+use lib.ListN.{getD}
 use Rattle.flags.specs.Flag.{put}
 use Rattle.graph.specs.Held.{Ordered}
 use Rattle.graph.proofs.Walked.{apart-cons, apart-uncons, apart-nil}
-use Rattle.hope.specs.Rest.{Next}
+use Rattle.step.specs.Rest.{GoesOn}
 use Rattle.walk.specs.Asked.{Lists, Passes, ByTables, all-ordered, one-unordered}
-use Rattle.walk.specs.Search.{Answer}
 use Rattle.walk.proofs.Carried.{carried-start}
 use Rattle.walk.proofs.Completeness.{found-or-ordered}
 use Rattle.walk.proofs.Soundness.{Onward, found-onward}
@@ -19,11 +17,13 @@ use Rattle.walk.proofs.Soundness.{Onward, found-onward}
 module _ (succ fits : List ℕ) (a b : ℕ) where
   -- what the search looks for at the first node
   abbrev pub Sought : List ℕ → Type 0
-  Sought = Next succ fits b (put 0 a) (getD fits a 0) a
+  Sought = GoesOn succ fits b (put 0 a) (getD fits a 0) a
 
   -- a route orders its ends, or the search finds it
   pub passed : (between : List ℕ) → Passes succ a between b → Ordered (Lists fits) a between b ⊎ Sought (between ++ b ∷ [])
-  passed between p = found-or-ordered succ fits a b between a (carried-start fits a) (p .follows) (p .once .1) (apart-cons a [] (between ++ b ∷ []) (p .once .0) (apart-nil (between ++ b ∷ [])))
+  passed between p =
+      found-or-ordered succ fits a b between a (carried-start fits a) (p .follows) (p .once .1)
+      (apart-cons a [] (between ++ b ∷ []) (p .once .0) (apart-nil (between ++ b ∷ [])))
 
   -- what is sought goes on from the first node
   abbrev pub Begun : List ℕ → Type 0
@@ -43,8 +43,6 @@ module _ (succ fits : List ℕ) (a b : ℕ) where
   pub none-sought : ((l : List ℕ) → Sought l → ⊥) → ByTables succ fits a b []
   none-sought nothing = all-ordered (none-left nothing)
 
-  pub one-sought : {way : Bool} {len : ℕ} {nodes : List ℕ} → way ≡ true → Answer Sought (a ∷ []) way len nodes → ByTables succ fits a b (take len nodes)
-  one-sought e r =
-      let f = r .found e in
-      let o = begun (f .3 .one) in
-      subst⁻¹ (ByTables succ fits a b) (f .2 ∙ ap (λ (t : List ℕ). a ∷ t) (o .whole)) (one-unordered (begun-passes o) (o .unordered))
+  pub one-sought : {route l : List ℕ} → route ≡ a ∷ l → Sought l → ByTables succ fits a b route
+  one-sought e s =
+      let o = begun s in subst⁻¹ (ByTables succ fits a b) (e ∙ ap (λ (t : List ℕ). a ∷ t) (o .whole)) (one-unordered (begun-passes o) (o .unordered))

@@ -1,13 +1,13 @@
 -- Soundness: what the search finds goes on to the goal, over no node twice, and leaves the ends unordered.
 -- Assumes nothing.
-use mathlib.Core.Bool.{true≢false}
 use mathlib.Core.List.{List, [], _∷_, _++_, append-assoc, append-nil}
-use mathlib.Core.Path.{_≡_, sym, ap, subst, subst⁻¹, _∙_}
+use mathlib.Core.Path.{_≡_, sym, ap, subst, _∙_}
 use Prim.Native.Nat.{ℕ}
 use Rattle.flags.specs.Flag.{flag}
 use Rattle.graph.specs.Held.{Absent, Follows, NoneTwice, Ordered}
+use Rattle.graph.proofs.Splits.{true-false}
 use Rattle.graph.proofs.Walked.{Apart, apart-uncons}
-use Rattle.hope.specs.Rest.{Rest, ends, goes}
+use Rattle.step.specs.Rest.{Rest, ends, goes}
 use Rattle.walk.specs.Asked.{Lists}
 use Rattle.walk.proofs.Carried.{Carried, carried-on}
 
@@ -21,14 +21,15 @@ module _ (succ fits : List ℕ) (a goal : ℕ) where
     pub apart : Apart path (rest ++ goal ∷ [])
     pub unordered : Ordered (Lists fits) a (seen ++ rest) goal → ⊥
 
-  pub found-onward : {path seen : List ℕ} {visited after p k : ℕ} {l : List ℕ} → Lists succ p k → Rest succ fits goal visited after k l → Carried fits a path seen visited after → Onward path seen p l
+  pub found-onward : {path seen : List ℕ} {visited after p k : ℕ} {l : List ℕ} → Lists succ p k → Rest succ fits goal visited after k l
+      → Carried fits a path seen visited after → Onward path seen p l
   found-onward {path} {seen} {visited} {after} {p} {k} h (ends f g e) s = record {
     rest = [];
     whole = ap (λ (x : ℕ). x ∷ []) g;
     follows = subst (Lists succ p) g h;
     once = (tt, tt);
     apart = (subst (λ (x : ℕ). Absent x path) g (s .new k f), tt);
-    unordered = λ o. true≢false (sym (s .lates goal (subst (λ (t : List ℕ). Ordered (Lists fits) a t goal) (append-nil seen) o)) ∙ ap (flag after) (sym g) ∙ e);
+    unordered = λ o. true-false (s .lates goal (rw append-nil at o)) (ap (flag after) (sym g) ∙ e);
   }
   found-onward {path} {seen} {visited} {after} {p} {k} h (goes f g h′ t) s = more (found-onward h′ t (carried-on fits a k s))
     where
@@ -41,5 +42,5 @@ module _ (succ fits : List ℕ) (a goal : ℕ) where
             follows = (h, w .follows);
             once = (q .0, w .once);
             apart = (s .new k f, q .1);
-            unordered = λ o. w .unordered (subst⁻¹ (λ (t : List ℕ). Ordered (Lists fits) a t goal) (append-assoc seen (k ∷ []) (w .rest)) o);
+            unordered = λ o. w .unordered (rw (append-assoc seen (k ∷ []) (w .rest)) o);
           }

@@ -2,65 +2,57 @@
 -- Assumes nothing.
 use mathlib.Core.Bool.{Bool, true, false, true≢false}
 use mathlib.Core.List.{List}
-use mathlib.Core.Path.{_≡_, sym, subst, _∙_}
-use Prim.Native.Nat.{ℕ, _+_, _<_}
-use native.Mathlib.Decide.{decLt}
+use mathlib.Core.Logic.{⊎-elim}
+use mathlib.Core.Path.{_≡_}
+use Prim.Native.Nat.{ℕ, _+_, _<_, _≤_}
 use native.Mathlib.Omega.{arith}
 use lib.ListN.{getD}
 use Rattle.graph.specs.Cut.{First}
 use Rattle.graph.specs.Limits.{most-nodes}
-use Rattle.hope.specs.Rest.{Rest, Next}
-use Rattle.hope.proofs.Rest.{rest-new, rest-first}
+use Rattle.graph.proofs.Splits.{lt-or-ge, tri, true-false}
+use Rattle.flags.specs.Flag.{flag}
 use Rattle.sets.specs.Whole.{Ahead}
-use Rattle.walk.specs.Search.{Answer, Earliest}
-use Rattle.walk.proofs.Lent.{one-way}
+use Rattle.step.specs.Rest.{Rest, GoesOn}
+use Rattle.step.proofs.Rest.{rest-new, rest-first}
+use Rattle.walk.specs.Search.{Decides, Earliest}
+use Rattle.walk.proofs.Lent.{back-as}
 use Rattle.words.specs.Words.{listed}
 
-module _ (succ fits : List ℕ) (goal : ℕ) where
-  -- no way goes on over a node below `from`
-  abbrev pub Tried : ℕ → ℕ → ℕ → ℕ → Type 0
-  Tried visited after v from = (j : ℕ) → j < from → listed succ v j ≡ true → (l : List ℕ) → Rest succ fits goal visited after j l → ⊥
+-- no way goes on over a node below `from`
+pub record FailedBelow (succ fits : List ℕ) (goal visited after v from : ℕ) : Type 0 where
+  pub no-rest : (j : ℕ) → j < from → listed succ v j ≡ true → (l : List ℕ) → Rest succ fits goal visited after j l → ⊥
 
-  pub none-tried : (visited after v : ℕ) → Tried visited after v 0
-  none-tried visited after v j h = absurd (omega (arith, h))
+pub none-tried : {succ fits : List ℕ} {goal visited after v : ℕ} → FailedBelow succ fits goal visited after v 0
+none-tried = record { no-rest = λ j h. absurd (omega (arith, h)) }
 
-  module _ {visited after from : ℕ} (v k : ℕ) (low : Ahead (getD succ v 0) visited from k) (tried : Tried visited after v from) where
-    -- nor over one before the next
-    over : Tried visited after v k
-    over j h s l t = go (decLt j from)
+module _ {succ fits : List ℕ} {goal visited after v from k : ℕ} (low : Ahead (getD succ v 0) visited from k)
+    (tried : FailedBelow succ fits goal visited after v from) where
+  -- nor over one where each from `from` on is visited
+  over : {l : List ℕ} (j : ℕ) → listed succ v j ≡ true → (from ≤ j → flag visited j ≡ true) → Rest succ fits goal visited after j l → ⊥
+  over j s seen t = ⊎-elim (λ p. tried .no-rest j p s _ t) (λ n. true-false (seen n) (rest-new succ fits goal t)) (lt-or-ge j from)
+
+  -- nor over one before the next
+  before : {l : List ℕ} (j : ℕ) → j < k → listed succ v j ≡ true → Rest succ fits goal visited after j l → ⊥
+  before j h s = over j s (λ n. low .passed j n h s)
+
+  pub all-tried : k ≡ most-nodes → (l : List ℕ) → GoesOn succ fits goal visited after v l → ⊥
+  all-tried e l (j, s, t) = over j s (λ n. low .none e j n s) t
+
+  module _ {way : Bool} {visited′ after′ : ℕ} {nodes nodes′ : List ℕ}
+      (answer : Decides (Rest succ fits goal) k way visited visited′ after after′ nodes nodes′) where
+    pub not-taken : way ≡ false → FailedBelow succ fits goal visited′ after′ v (k + 1)
+    not-taken z = rw (answer .back .on-route z, answer .back .marked z) (record { no-rest = failed })
       where
-        go : Dec (j < from) → ⊥
-        go (yes p) = tried j p s l t
-        go (no n) = true≢false (sym (low .passed j (omega (arith, n)) h s) ∙ rest-new succ fits goal t)
+        failed : (j : ℕ) → j < k + 1 → listed succ v j ≡ true → (l : List ℕ) → Rest succ fits goal visited after j l → ⊥
+        failed j h s l t = ⊎-elim (λ p. before j p s t) (λ n. let e : j ≡ k = omega (arith, h, n) in answer .none z l (rw e at t)) (lt-or-ge j k)
 
-    pub all-tried : k ≡ most-nodes → (l : List ℕ) → Next succ fits goal visited after v l → ⊥
-    all-tried e l (j, h, t) = go (decLt j from)
+    pub taken : (k ≡ most-nodes → ⊥) → way ≡ true → Decides (GoesOn succ fits goal) v true visited visited′ after after′ nodes nodes′
+    taken is e = record {
+      none = λ z. absurd (true≢false z);
+      found = λ z. let r = answer .found e in (r .0, r .1, r .2, record { one = (k, low .one is .2, r .3 .one); least = least (r .0) (r .3) });
+      back = back-as e (answer .back);
+    }
       where
-        go : Dec (j < from) → ⊥
-        go (yes p) = tried j p h l t
-        go (no n) = true≢false (sym (low .none e j (omega (arith, n)) h) ∙ rest-new succ fits goal t)
-
-    module _ {pre : List ℕ} {way : Bool} {len : ℕ} {nodes : List ℕ} (answer : Answer (Rest succ fits goal visited after k) pre way len nodes) where
-      pub not-taken : way ≡ false → Tried visited after v (k + 1)
-      not-taken z j h s l t = go (decLt j k)
-        where
-          go : Dec (j < k) → ⊥
-          go (yes p) = over j p s l t
-          go (no n) =
-              let e : j ≡ k = omega (arith, h, n) in
-              answer .none z l (subst (λ (x : ℕ). Rest succ fits goal visited after x l) e t)
-
-      pub taken : (k ≡ most-nodes → ⊥) → way ≡ true → Answer (Next succ fits goal visited after v) pre true len nodes
-      taken is e =
-          let r = answer .found e in
-          one-way (r .0) (r .1) (r .2) (record { one = (k, low .one is .2, r .3 .one); least = least (r .0) (r .3) })
-        where
-          least : (l : List ℕ) → Earliest (Rest succ fits goal visited after k) l → (s : List ℕ) → Next succ fits goal visited after v s → First l s
-          least l first s (j, h, t) = by (decLt j k) (decLt k j)
-            where
-              by : Dec (j < k) → Dec (k < j) → First l s
-              by (yes lt) d = absurd (over j lt h s t)
-              by (no ge) (yes lt) = rest-first succ fits goal l s lt (first .one) t
-              by (no ge) (no le) =
-                  let same-node : j ≡ k = omega (arith, ge, le) in
-                  first .least s (subst (λ (x : ℕ). Rest succ fits goal visited after x s) same-node t)
+        least : (l : List ℕ) → Earliest (Rest succ fits goal visited after k) l → (s : List ℕ) → GoesOn succ fits goal visited after v s → First l s
+        least l first s (j, h, t) =
+            ⊎-elim (λ lt. absurd (before j lt h t)) (⊎-elim (λ e. first .least s (rw e at t)) (λ lt. rest-first succ fits goal l s lt (first .one) t)) (tri j k)

@@ -11,11 +11,11 @@ use Rattle.graph.specs.declared.Rule.{Rule}
 use Rattle.graph.specs.Graph as Drawn
 use Rattle.graph.specs.Value.{ordersOf, Told}
 use Rattle.graph.proofs.Unique.{asked-unique}
-use Rattle.walk.specs.declared.Way.{Way}
+use Rattle.walk.specs.declared.NodeRoute.{NodeRoute}
 use Rattle.walk.specs.Asked.{AskedOf}
 use Rattle.words.specs.Words.{WordsOf}
 
-pub route-unique : {g : Drawn.Graph} {rules : List Rule} {c : List ℕ} (succ fits : List ℕ) → WordsOf g rules c succ fits → (a b : ℕ) (v w : Way)
+pub route-unique : {g : Drawn.Graph} {rules : List Rule} {c : List ℕ} (succ fits : List ℕ) → WordsOf g rules c succ fits → (a b : ℕ) (v w : NodeRoute)
     → v .len ≤ length (v .nodes)
     → w .len ≤ length (w .nodes)
     → AskedOf succ fits a b (take (v .len) (v .nodes))

@@ -4,6 +4,7 @@ use mathlib.Core.Bool.{Bool, true, false}
 use mathlib.Core.List.{List, _++_}
 use mathlib.Core.Path.{_≡_}
 use Prim.Native.Nat.{ℕ, _≤_}
+use lib.Count.{ones}
 use lib.ListN.{length, take}
 use Rattle.graph.specs.Cut.{First}
 use Rattle.graph.specs.Limits.{most-nodes}
@@ -13,14 +14,16 @@ pub record Earliest (C : List ℕ → Type 0) (l : List ℕ) : Type 0 where
   pub one : C l
   pub least : (s : List ℕ) → C s → First l s
 
--- the answer whether there is such a list: where there is, the first one stands after what the route had, in the first len of these nodes
-pub record Answer (C : List ℕ → Type 0) (pre : List ℕ) (way : Bool) (len : ℕ) (nodes : List ℕ) : Type 0 where
-  pub none : way ≡ false → (l : List ℕ) → C l → ⊥
-  pub found : way ≡ true → (l : List ℕ) × (len ≤ most-nodes) × (take len nodes ≡ pre ++ l) × Earliest C l
-
--- what was lent comes back: the route of n nodes, and where no way was found the sets that grow along it
-pub record Back (n : ℕ) (way : Bool) (visited visited′ after after′ : ℕ) (nodes nodes′ : List ℕ) : Type 0 where
+-- what was lent comes back: the route so far, which has the nodes in `visited`, and where no way was found the sets that grow along it
+pub record GivenBack (way : Bool) (visited visited′ after after′ : ℕ) (nodes nodes′ : List ℕ) : Type 0 where
   pub on-route : way ≡ false → visited′ ≡ visited
   pub marked : way ≡ false → after′ ≡ after
-  pub route : take n nodes′ ≡ take n nodes
+  pub route : take (ones visited) nodes′ ≡ take (ones visited) nodes
   pub long : length nodes′ ≡ length nodes
+
+-- whether there is a list that C names at v: where there is, the first one stands after the route so far; and what was lent comes back
+pub record Decides (C : ℕ → ℕ → ℕ → List ℕ → Type 0) (v : ℕ) (way : Bool) (visited visited′ after after′ : ℕ) (nodes nodes′ : List ℕ) : Type 0 where
+  pub none : way ≡ false → (l : List ℕ) → C visited after v l → ⊥
+  pub found : way ≡ true → (l : List ℕ) × (ones visited′ ≤ most-nodes) × (take (ones visited′) nodes′ ≡ take (ones visited) nodes ++ l)
+      × Earliest (C visited after v) l
+  pub back : GivenBack way visited visited′ after after′ nodes nodes′

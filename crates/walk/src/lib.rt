@@ -3,7 +3,6 @@ use graph::Graph;
 use hope::hopeful;
 use hope::hopeless;
 use hope::into_set;
-use hope::mark_on;
 use hope::pairs::lost;
 use sets::Set;
 use sets::has;
@@ -13,12 +12,12 @@ use sets::put_in;
 use sets::size;
 use sets::take_out;
 use sets::with;
+use step::mark_on;
 use words::Sets;
 use words::succ_of;
 ghost use mathlib.Core.Path.{_≡_};
 ghost use mathlib.Core.Bool.{false};
 ghost use Prim.Native.Nat.{_<_, _≤_};
-ghost use lib.Count.{ones};
 ghost use lib.ListN.{length, take};
 ghost use Rattle.flags.specs.Flag.{flag};
 ghost use Rattle.graph.specs.Graph.{Sound, Orderly};
@@ -27,12 +26,12 @@ ghost use Rattle.graph.specs.Value.{graphOf, ordersOf, Sized, Told};
 ghost use Rattle.walk.specs.Asked.{AskedOf, ByTables};
 ghost use Rattle.sets.specs.Whole.{whole, rows};
 ghost use Rattle.words.specs.Words.{Fitted};
-ghost use Rattle.hope.specs.Rest.{Rest, Next};
+ghost use Rattle.step.specs.Rest.{Rest, GoesOn};
 ghost use Rattle.hope.specs.Hope.{Into};
-ghost use Rattle.walk.specs.Search.{Answer, Back};
+ghost use Rattle.walk.specs.Search.{Decides};
 
 // A route: the first len entries of nodes. Where there is none len is 0.
-pub struct Way {
+pub struct NodeRoute {
     pub len: usize,
     pub nodes: [u16; Graph::NODES],
 }
@@ -54,8 +53,7 @@ fn visit<'a, 'b, 'c, 'd, 'e>(
 ) -> bool
     requires { ⌜ (v < most-nodes) × (goal < most-nodes) × (flag (whole (now visited)) v ≡ false) × Into (rows (now fits)) goal (whole (now into)) ⌝ }
     requires { ⌜ length (now nodes) ≡ most-nodes ⌝ }
-    ensures { λ r. ⌜ Answer (Rest (rows (now (succ .entry))) (rows (now (fits .entry))) goal (whole (now (visited .entry))) (whole (now (after .entry))) v) (take (ones (whole (now (visited .entry)))) (now (nodes .entry))) r (ones (whole (now (visited .exit)))) (now (nodes .exit)) ⌝ }
-    ensures { λ r. ⌜ Back (ones (whole (now (visited .entry)))) r (whole (now (visited .entry))) (whole (now (visited .exit))) (whole (now (after .entry))) (whole (now (after .exit))) (now (nodes .entry)) (now (nodes .exit)) ⌝ }
+    ensures { λ r. ⌜ Decides (Rest (rows (now (succ .entry))) (rows (now (fits .entry))) goal) v r (whole (now (visited .entry))) (whole (now (visited .exit))) (whole (now (after .entry))) (whole (now (after .exit))) (now (nodes .entry)) (now (nodes .exit)) ⌝ }
 {
     put_in(visited, v);
     let n = size(*visited);
@@ -104,8 +102,7 @@ fn trial<'a, 'b, 'c, 'd, 'e>(
 ) -> bool
     requires { ⌜ (v < most-nodes) × (goal < most-nodes) × Into (rows (now fits)) goal (whole (now into)) ⌝ }
     requires { ⌜ length (now nodes) ≡ most-nodes ⌝ }
-    ensures { λ r. ⌜ Answer (Next (rows (now (succ .entry))) (rows (now (fits .entry))) goal (whole (now (visited .entry))) (whole (now (after .entry))) v) (take (ones (whole (now (visited .entry)))) (now (nodes .entry))) r (ones (whole (now (visited .exit)))) (now (nodes .exit)) ⌝ }
-    ensures { λ r. ⌜ Back (ones (whole (now (visited .entry)))) r (whole (now (visited .entry))) (whole (now (visited .exit))) (whole (now (after .entry))) (whole (now (after .exit))) (now (nodes .entry)) (now (nodes .exit)) ⌝ }
+    ensures { λ r. ⌜ Decides (GoesOn (rows (now (succ .entry))) (rows (now (fits .entry))) goal) v r (whole (now (visited .entry))) (whole (now (visited .exit))) (whole (now (after .entry))) (whole (now (after .exit))) (now (nodes .entry)) (now (nodes .exit)) ⌝ }
 {
     if hopeless(succ, fits, goal, into, visited, after, lent, doubt, v) {
         return false;
@@ -138,7 +135,7 @@ pub fn open_route<'a>(
     n: usize,
     a: usize,
     b: usize,
-) -> Way
+) -> NodeRoute
     requires { ⌜ (n ≤ most-nodes) × (a < most-nodes) × (b < most-nodes) ⌝ }
     ensures { λ r. ⌜ (r .len ≤ most-nodes) × AskedOf (rows (now (succ .entry))) (rows (now (fits .entry))) a b (take (r .len) (r .nodes)) × ByTables (rows (now (succ .entry))) (rows (now (fits .entry))) a b (take (r .len) (r .nodes)) ⌝ }
 {
@@ -148,7 +145,7 @@ pub fn open_route<'a>(
     let into = into_set(fits, n, b);
     let mut visited = with(none(), a);
     if !hopeful(succ, fits, b, &into, &visited, &after, lent, a) {
-        return Way { len: 0, nodes };
+        return NodeRoute { len: 0, nodes };
     }
     if !trial(
         succ,
@@ -162,10 +159,10 @@ pub fn open_route<'a>(
         false,
         a,
     ) {
-        return Way { len: 0, nodes };
+        return NodeRoute { len: 0, nodes };
     }
     let len = size(visited);
-    Way { len, nodes }
+    NodeRoute { len, nodes }
 }
 
 // For each order whether it is open, by the table of the rules. The other table is lent to the tests for a way on, whatever it has.

@@ -2,7 +2,7 @@
 -- Assumes nothing.
 use mathlib.Core.Bool.{false}
 use mathlib.Core.List.{List, [], _∷_, _++_}
-use mathlib.Core.Path.{_≡_, refl, sym, ap, _∙_, subst, subst⁻¹}
+use mathlib.Core.Path.{_≡_, refl, sym, ap, _∙_}
 use Prim.Native.Nat.{ℕ, zero, suc, _+_, _*_, _<_, _≤_, _^_}
 use native.Mathlib.Nat.{one-mul}
 use native.Mathlib.Omega.{arith}
@@ -17,7 +17,7 @@ use Rattle.flags.proofs.Put.{put-count, put-other}
 use Rattle.graph.specs.Held.{Absent, Follows, NoneTwice, Ordered, Within}
 use Rattle.graph.specs.Ask.{along}
 use Rattle.graph.specs.Limits.{most-nodes}
-use Rattle.route.specs.declared.Route.{Route}
+use Rattle.route.specs.declared.EdgeRoute.{EdgeRoute}
 use Rattle.walk.specs.Asked.{Lists}
 use Rattle.walked.specs.Unordered.{Out, Goes, Leads, FoundUnordered}
 use Rattle.route.specs.Way.{Remains}
@@ -26,17 +26,17 @@ use Rattle.route.specs.Way.{Remains}
 
 put-room : (m w k : ℕ) → w < 2 ^ m → k < m → put w k < 2 ^ m
 unfolding put
-put-room m w k h l = or-lt m w (1 * 2 ^ k) h (subst (λ (x : ℕ). x < 2 ^ m) (sym (one-mul (2 ^ k))) (pow-lt l))
+put-room m w k h l = or-lt m w (1 * 2 ^ k) h (rw one-mul (pow-lt l))
 
 gathered : (m : ℕ) (l : List ℕ) → NoneTwice l → Within m l → (w : ℕ) × (w < 2 ^ m) × (ones w ≡ length l) × ((k : ℕ) → Absent k l → flag w k ≡ false)
 unfolding ones
 gathered m [] o h = (0, pow-pos m, refl, λ k q. flag-zero k)
 gathered m (x ∷ l) o h =
-    let r = gathered m l (o .1) (h .1) in
-    (put (r .0) x, put-room m (r .0) x (r .1) (h .0), omega (arith, put-count (r .0) x (r .3 x (o .0)), r .2), λ k q. put-other (r .0) x k (q .0) ∙ r .3 k (q .1))
+    let (w, few, count, free) = gathered m l (o .1) (h .1) in
+    (put w x, put-room m w x few (h .0), omega (arith, put-count w x (free x (o .0)), count), λ k q. put-other w x k (q .0) ∙ free k (q .1))
 
 pub few-nodes : (m : ℕ) (l : List ℕ) → NoneTwice l → Within m l → length l ≤ m
-few-nodes m l o h = let r = gathered m l o h in omega (arith, ones-le m (r .0) (r .1), r .2)
+few-nodes m l o h = let (w, few, count, free) = gathered m l o h in omega (arith, ones-le m w few, count)
 
 -- ---- edges one after the other
 
@@ -55,24 +55,29 @@ module _ (R : ℕ → ℕ → ℕ → Type 0) where
   chain-long (more r c) = omega (arith, chain-long c)
 
 module _ (from to : List ℕ) (A : ℕ → Type 0) where
-  pub chain-edge : {a b : ℕ} {es between : List ℕ} → Chain (Goes from to A) a es between b → (k : ℕ) → k < length es → (getD es k 0 < length from) × A (getD es k 0)
+  pub chain-edge : {a b : ℕ} {es between : List ℕ} → Chain (Goes from to A) a es between b → (k : ℕ) → k < length es
+      → (getD es k 0 < length from) × A (getD es k 0)
   chain-edge (last r) zero h = (r .0, r .1)
   chain-edge (last r) (suc k) h = absurd (omega (arith, h))
   chain-edge (more r c) zero h = (r .0, r .1)
   chain-edge (more r c) (suc k) h = chain-edge c k (omega (arith, h))
 
-  pub chain-led : (B : ℕ → Type 0) {a b : ℕ} {es between : List ℕ} → Chain (Goes from to A) a es between b → ((k : ℕ) → k < length es → B (getD es k 0)) → Follows (Leads from to B) a between b
+  pub chain-led : (B : ℕ → Type 0) {a b : ℕ} {es between : List ℕ} → Chain (Goes from to A) a es between b → ((k : ℕ) → k < length es → B (getD es k 0))
+      → Follows (Leads from to B) a between b
   chain-led B (last {e = e} r) f = (e, (r .0, f 0 (omega arith), r .2, r .3))
   chain-led B (more {e = e} r c) f = ((e, (r .0, f 0 (omega arith), r .2, r .3)), chain-led B c (λ k h. f (suc k) (omega (arith, h))))
 
 -- the edges of a chain, in a route
-pub chain-found : (from to fits left : List ℕ) (a b : ℕ) (es between : List ℕ) (r : Route) → Chain (Goes from to (Remains left)) a es between b
-    → NoneTwice (along a between b) → (Ordered (Lists fits) a between b → ⊥) → length es ≤ most-nodes → r .len ≡ length es → take (r .len) (r .edges) ≡ es → FoundUnordered from to fits left a b r
+pub chain-found : (from to fits left : List ℕ) (a b : ℕ) (es between : List ℕ) (r : EdgeRoute) → Chain (Goes from to (Remains left)) a es between b
+    → NoneTwice (along a between b) → (Ordered (Lists fits) a between b → ⊥) → length es ≤ most-nodes → r .len ≡ length es → take (r .len) (r .edges) ≡ es
+    → FoundUnordered from to fits left a b r
 chain-found from to fits left a b es between r c once un few n t = record {
   short = omega (arith, few, n);
   none = λ z. absurd (omega (arith, z, n, chain-long (Goes from to (Remains left)) c));
-  edge = λ k h. subst⁻¹ (λ (x : ℕ). (x < length from) × Remains left x) (at k h) (chain-edge from to (Remains left) c k (omega (arith, h, n)));
-  way = λ h s out. (between, record { follows = chain-led from to (Remains left) (Out s) c (λ k q. subst (Out s) (at k (omega (arith, q, n))) (out k (omega (arith, q, n)))); once = once; unordered = un });
+  edge = λ k h. rw (at k h) (chain-edge from to (Remains left) c k (omega (arith, h, n)));
+  way = λ h s out.
+      let follows = chain-led from to (Remains left) (Out s) c (λ k q. rw (at k (omega (arith, q, n))) at (out k (omega (arith, q, n)))) in
+      (between, record { follows = follows; once = once; unordered = un });
 }
   where
     at : (k : ℕ) → k < r .len → getD (r .edges) k 0 ≡ getD es k 0

@@ -8,7 +8,7 @@ use lib.ListN.{length, getD}
 use Rattle.graph.specs.Ask.{along}
 use Rattle.graph.specs.Held.{Follows, NoneTwice, Ordered}
 use Rattle.graph.specs.Limits.{most-nodes}
-use Rattle.route.specs.declared.Route.{Route}
+use Rattle.route.specs.declared.EdgeRoute.{EdgeRoute}
 use Rattle.route.specs.Way.{Remains}
 use Rattle.walk.specs.Asked.{Lists}
 
@@ -35,8 +35,9 @@ abbrev pub Parts : List ℕ → List ℕ → List ℕ → ℕ → ℕ → List B
 Parts from to fits a b t = (between : List ℕ) → Unordered from to fits (Out t) a between b → ⊥
 
 -- no edge, and of the edges that are left there is no unordered route; or the edges of one
-pub record FoundUnordered (from to fits left : List ℕ) (a b : ℕ) (r : Route) : Type 0 where
+pub record FoundUnordered (from to fits left : List ℕ) (a b : ℕ) (r : EdgeRoute) : Type 0 where
   pub short : r .len ≤ most-nodes
   pub none : r .len ≡ 0 → (between : List ℕ) → Unordered from to fits (Remains left) a between b → ⊥
   pub edge : (k : ℕ) → k < r .len → (getD (r .edges) k 0 < length from) × Remains left (getD (r .edges) k 0)
-  pub way : 0 < r .len → (t : List Bool) → ((k : ℕ) → k < r .len → Out t (getD (r .edges) k 0)) → (between : List ℕ) × Unordered from to fits (Out t) a between b
+  pub way : 0 < r .len → (t : List Bool) → ((k : ℕ) → k < r .len → Out t (getD (r .edges) k 0))
+      → (between : List ℕ) × Unordered from to fits (Out t) a between b

@@ -8,7 +8,7 @@ ghost use mathlib.Core.Path.{_≡_};
 ghost use Prim.Native.Nat.{_<_};
 ghost use lib.ListN.{length};
 ghost use Rattle.graph.specs.Limits.{most-nodes};
-ghost use Rattle.route.specs.Way.{Net, Linked, Remains};
+ghost use Rattle.route.specs.Way.{Net, EdgeLists, Remains};
 ghost use Rattle.sets.specs.Whole.{rows};
 ghost use Rattle.walked.specs.Steps.{Leading, Stepped, Named};
 ghost use Rattle.walked.specs.Unordered.{Goes, Leads, FoundUnordered};
@@ -42,7 +42,7 @@ fn edge_between(
     p: usize,
     q: usize,
 ) -> usize
-    requires { ⌜ Net (now from) (now to) × Linked (now from) (now links) 0 × (p < most-nodes) ⌝ }
+    requires { ⌜ Net (now from) (now to) × EdgeLists (now from) (now links) 0 × (p < most-nodes) ⌝ }
     ensures { λ r. ⌜ (Leads (now (from .entry)) (now (to .entry)) (Remains (now (left .entry))) p q → Goes (now (from .entry)) (now (to .entry)) (Remains (now (left .entry))) r p q) ⌝ }
 {
     let n = from.len();
@@ -68,7 +68,7 @@ fn named(
     n: usize,
     out: &mut [u16; Graph::NODES],
 )
-    requires { ⌜ Net (now from) (now to) × Linked (now from) (now links) 0 ⌝ }
+    requires { ⌜ Net (now from) (now to) × EdgeLists (now from) (now links) 0 ⌝ }
     requires { ⌜ (n < most-nodes) × Stepped (now from) (now to) (now left) (now nodes) n ⌝ }
     requires { ⌜ length (now out) ≡ most-nodes ⌝ }
     ensures { λ r. ⌜ (length (now (out .exit)) ≡ most-nodes) × Named (now (from .entry)) (now (to .entry)) (now (left .entry)) (now (nodes .entry)) (now (out .exit)) n ⌝ }
@@ -97,7 +97,7 @@ pub fn walked_route(
     lent: &mut Sets,
     out: &mut [u16; Graph::NODES],
 ) -> usize
-    requires { ⌜ Net (now from) (now to) × Linked (now from) (now links) 0 ⌝ }
+    requires { ⌜ Net (now from) (now to) × EdgeLists (now from) (now links) 0 ⌝ }
     requires { ⌜ (a < most-nodes) × (goal < most-nodes) ⌝ }
     requires { ⌜ length (now out) ≡ most-nodes ⌝ }
     ensures { λ r. ⌜ (length (now (out .exit)) ≡ most-nodes) × FoundUnordered (now (from .entry)) (now (to .entry)) (rows (now (fits .entry))) (now (left .entry)) a goal (record { edges = now (out .exit); len = r }) ⌝ }

@@ -3,7 +3,7 @@
 use mathlib.Core.Bool.{Bool, true, _&&_}
 use mathlib.Core.List.{List, [], _∷_}
 use mathlib.Core.Logic.{_↔_}
-use mathlib.Core.Path.{_≡_, refl, sym, ap, ap₂, _∙_}
+use mathlib.Core.Path.{_≡_, refl, sym, ap₂, _∙_}
 use Prim.Native.Nat.{ℕ, zero, suc, _<_}
 use native.Mathlib.Nat.{le-of-suc-le-suc, not-suc-le-zero}
 use native.Mathlib.Omega.{arith}
@@ -11,11 +11,10 @@ use lib.ListN.{length, take, getD, length-take}
 use borrow.Author.Tests.{lt-ltb}
 use denote.Floats.{is-true, passes}
 use Rattle.graph.proofs.Value.{edge-at}
-use Rattle.graph.specs.declared.Edge.{Edge}
 use Rattle.graph.specs.declared.Graph.{Graph}
 use Rattle.graph.specs.declared.Label.the-variants.{Fence}
 use Rattle.graph.specs.declared.Node.{Node}
-use Rattle.graph.specs.Fit.{ruledb}
+use Rattle.graph.specs.Tests.{ruledb}
 use Rattle.graph.specs.Graph.{Sound, label}
 use Rattle.graph.specs.Held.{Step}
 use Rattle.graph.specs.Value.{labels, graphOf, rulesOf, Sized}
@@ -37,29 +36,19 @@ ruling g fits fit p q h k =
     let test : listed fits p q ≡ ruledb (rulesOf g) (label (graphOf g) p) (label (graphOf g) q) =
     fit p q
     ∙ ap₂ (λ (x y : Bool). x && (y && ruledb (rulesOf g) (labelAt (g .nodes) p) (labelAt (g .nodes) q)))
-    (lt-ltb p (g .«node_count») (omega (arith, h, labels-few (g .nodes) (g .«node_count»)))) (lt-ltb q (g .«node_count») (omega (arith, k, labels-few (g .nodes) (g .«node_count»))))
+    (lt-ltb p (g .«node_count») (omega (arith, h, labels-few (g .nodes) (g .«node_count»))))
+    (lt-ltb q (g .«node_count») (omega (arith, k, labels-few (g .nodes) (g .«node_count»))))
     ∙ ap₂ (ruledb (rulesOf g)) (sym lp) (sym lq) in
     (λ e. says .so (passes _ (sym test ∙ e)), λ r. test ∙ is-true _ (says .back r))
 
 module _ (g : Graph) (sized : Sized g) (sound : Sound (graphOf g)) where
   led-step : (p q : ℕ) → Led (g .edges) (g .«edge_count») p q → Step (graphOf g) [] p q
-  led-step p q (j, h, k, f, t) = (
-    j,
-    omega (arith, length-take (g .«edge_count») (g .edges)),
-    tt,
-    ap (λ (x : Edge). x .from) (edge-at g j h) ∙ f,
-    ap (λ (x : Edge). x .to) (edge-at g j h) ∙ t,
-  )
+  led-step p q (j, h, k, f, t) = (j, omega (arith, length-take (g .«edge_count») (g .edges)), tt, rw (edge-at g j h) f, rw (edge-at g j h) t)
 
   step-led : (p q : ℕ) → Step (graphOf g) [] p q → Led (g .edges) (g .«edge_count») p q
   step-led p q (j, h, o, f, t) =
-      let k = counted-below (g .«edge_count») (g .edges) j h in (
-        j,
-        k,
-        omega (arith, length-take (g .«edge_count») (g .edges)),
-        sym (ap (λ (x : Edge). x .from) (edge-at g j k)) ∙ f,
-        sym (ap (λ (x : Edge). x .to) (edge-at g j k)) ∙ t,
-      )
+      let k = counted-below (g .«edge_count») (g .edges) j h in
+      (j, k, omega (arith, length-take (g .«edge_count») (g .edges)), rw (edge-at g j k) at f, rw (edge-at g j k) at t)
 
   pub words-made : (succ fits : List ℕ)
       → ((p q : ℕ) → (listed succ p q ≡ true) ↔ Led (g .edges) (g .«edge_count») p q)

@@ -1,10 +1,9 @@
 -- A node's row of the rules, made rule by rule from the nodes that a right side matches and those at the node's address, is what the rules say.
 -- Assumes nothing.
-use mathlib.Core.Bool.{Bool, true, false, _&&_, _||_}
-use mathlib.Core.List.{List, [], _∷_}
+use mathlib.Core.Bool.{Bool, true, false, _&&_, _||_, and-true, and-false, and-or-distrib-left}
+use mathlib.Core.List.{List}
 use mathlib.Core.Path.{_≡_, refl, sym, ap, ap₂, _∙_}
-use Prim.Native.Nat.{ℕ, zero, suc, _+_, _<_}
-use native.Mathlib.Nat.{le-of-suc-le-suc, not-suc-le-zero}
+use Prim.Native.Nat.{ℕ, _+_, _<_}
 use native.Mathlib.Numerals.{add-one}
 use native.Mathlib.Decide.{ℕ-discrete}
 use native.Mathlib.Omega.{arith}
@@ -22,23 +21,18 @@ use Rattle.graph.specs.declared.Side.{Side}
 use Rattle.graph.specs.declared.Side.the-variants.{Any, Is}
 use Rattle.graph.specs.declared.Want.{Want}
 use Rattle.graph.specs.declared.Want.the-variants.{Never, Free, Var}
-use Rattle.graph.specs.Fit.{wantOf, ifSame, agree, fitOf, someb, ruledb}
+use Rattle.graph.specs.Tests.{wantOf, agree, fitOf, ruledb}
+use Rattle.graph.proofs.Ruled.{some-or}
+use Rattle.sets.specs.Whole.{whole}
 use Rattle.words.specs.Words.{listed, labelAt}
 use Rattle.words.specs.Rows.{matchb, addressedb, nearb, namesb, part, no-rule, RowOf, Rights}
 
 -- ---- one rule, one node
 
-free-part : (R : Side) (k : Label) → matchb (wantOf R k) ≡ agree Free (wantOf R k)
-free-part Any k = refl
-free-part (Is (Store y)) (Store b) = refl
-free-part (Is (Store y)) (Load b) = refl
-free-part (Is (Store y)) Fence = refl
-free-part (Is (Load y)) (Store b) = refl
-free-part (Is (Load y)) (Load b) = refl
-free-part (Is (Load y)) Fence = refl
-free-part (Is Fence) (Store b) = refl
-free-part (Is Fence) (Load b) = refl
-free-part (Is Fence) Fence = refl
+free-part : (w : Want) → matchb w ≡ agree Free w
+free-part Never = refl
+free-part Free = refl
+free-part (Var x a) = refl
 
 var-part : (x a : ℕ) (R : Side) (k : Label) → part (Var x a) R (matchb (wantOf R k)) (addressedb a k) ≡ agree (Var x a) (wantOf R k)
 var-part x a Any k = refl
@@ -53,7 +47,7 @@ var-part x a (Is Fence) (Load b) = refl
 var-part x a (Is Fence) Fence = refl
 
 fit-part : (L R : Side) (l k : Label) → part (wantOf L l) R (matchb (wantOf R k)) (nearb l k) ≡ agree (wantOf L l) (wantOf R k)
-fit-part Any R l k = free-part R k
+fit-part Any R l k = free-part (wantOf R k)
 fit-part (Is (Store x)) R (Store a) k = var-part x a R k
 fit-part (Is (Store x)) R (Load a) k = refl
 fit-part (Is (Store x)) R Fence k = refl
@@ -62,7 +56,7 @@ fit-part (Is (Load x)) R (Load a) k = var-part x a R k
 fit-part (Is (Load x)) R Fence k = refl
 fit-part (Is Fence) R (Store a) k = refl
 fit-part (Is Fence) R (Load a) k = refl
-fit-part (Is Fence) R Fence k = free-part R k
+fit-part (Is Fence) R Fence k = free-part (wantOf R k)
 
 no-part : (w : Want) (R : Side) (c : Bool) → part w R false c ≡ false
 no-part Never R c = refl
@@ -70,36 +64,16 @@ no-part Free R c = refl
 no-part (Var x a) R c = refl
 
 -- the same of what may be no node
-part-fits : (rule : Rule) (l k : Label) (b : Bool) → part (wantOf (rule .left) l) (rule .right) (b && matchb (wantOf (rule .right) k)) (b && nearb l k) ≡ (b && fitOf rule l k)
+part-fits : (rule : Rule) (l k : Label) (b : Bool)
+    → part (wantOf (rule .left) l) (rule .right) (b && matchb (wantOf (rule .right) k)) (b && nearb l k) ≡ (b && fitOf rule l k)
 part-fits rule l k true = fit-part (rule .left) (rule .right) l k
 part-fits rule l k false = no-part (wantOf (rule .left) l) (rule .right) false
 
 -- ---- one rule after the other
 
-some-or : {A : Type 0} (f : A → Bool) (xs : List A) (i : ℕ) (d : A) → i < length xs → someb f (take (suc i) xs) ≡ (someb f (take i xs) || f (getD xs i d))
-some-or f [] i d h = absurd (not-suc-le-zero h)
-some-or f (x ∷ xs) zero d h = or-none (f x)
-  where
-    or-none : (b : Bool) → (b || false) ≡ b
-    or-none true = refl
-    or-none false = refl
-some-or f (x ∷ xs) (suc i) d h = go (f x) (some-or f xs i d (le-of-suc-le-suc h))
-  where
-    go : (b : Bool) → someb f (take (suc i) xs) ≡ (someb f (take i xs) || f (getD xs i d)) → (b || someb f (take (suc i) xs)) ≡ ((b || someb f (take i xs)) || f (getD xs i d))
-    go true e = refl
-    go false e = e
-
-and-or : (b x y : Bool) → ((b && x) || (b && y)) ≡ (b && (x || y))
-and-or true x y = refl
-and-or false x y = refl
-
 module _ (rights : List ℕ) (rules : List Rule) (m : ℕ) (l : Label) (close : ℕ) where
   pub row-none : (row : ℕ) → row ≡ 0 → RowOf rights rules m l close 0 row
-  row-none row e q b k r c = ap (λ (w : ℕ). flag w q) e ∙ flag-zero q ∙ sym (and-none b)
-    where
-      and-none : (b : Bool) → (b && false) ≡ false
-      and-none true = refl
-      and-none false = refl
+  row-none row e q b k r c = rw e (flag-zero q ∙ sym (and-false b))
 
   pub row-more : (i row right one more : ℕ) → i < m → i < length rules → right ≡ getD rights i 0
       → ((q : ℕ) → flag one q ≡ part (wantOf (getD rules i no-rule .left) l) (getD rules i no-rule .right) (flag right q) (flag close q))
@@ -109,9 +83,10 @@ module _ (rights : List ℕ) (rules : List Rule) (m : ℕ) (l : Label) (close : 
       let rule = getD rules i no-rule in
       let right′ : flag right q ≡ (b && matchb (wantOf (rule .right) k)) = ap (λ (w : ℕ). flag w q) e ∙ r i h in
       let one′ : flag one q ≡ (b && fitOf rule l k) = o q ∙ ap₂ (part (wantOf (rule .left) l) (rule .right)) right′ c ∙ part-fits rule l k b in
-      let all : someb (λ (x : Rule). fitOf x l k) (take (i + 1) rules) ≡ (someb (λ (x : Rule). fitOf x l k) (take i rules) || fitOf rule l k) =
-      ap (λ (x : ℕ). someb (λ (y : Rule). fitOf y l k) (take x rules)) (add-one i) ∙ some-or (λ (x : Rule). fitOf x l k) rules i no-rule len in
-      ap (λ (w : ℕ). flag w q) f ∙ either-flag row one q ∙ ap₂ _||_ (was q b k r c) one′ ∙ and-or b (ruledb (take i rules) l k) (fitOf rule l k) ∙ ap (λ (x : Bool). b && x) (sym all)
+      let all : ruledb (take (i + 1) rules) l k ≡ (ruledb (take i rules) l k || fitOf rule l k) =
+      rw (add-one i) (some-or (λ (x : Rule). fitOf x l k) rules i no-rule len) in
+      ap (λ (w : ℕ). flag w q) f ∙ either-flag row one q ∙ ap₂ _||_ (was q b k r c) one′
+      ∙ sym (and-or-distrib-left b (ruledb (take i rules) l k) (fitOf rule l k)) ∙ ap (λ (x : Bool). b && x) (sym all)
 
 -- ---- the right sides
 
@@ -119,7 +94,8 @@ module _ (nodes : List Node) (n : ℕ) (rules : List Rule) where
   pub rights-none : (rights : List ℕ) → Rights nodes n rules 0 rights
   rights-none rights j q h = absurd (omega (arith, h))
 
-  pub rights-more : (i w : ℕ) (rights : List ℕ) → i < length rights → ((q : ℕ) → flag w q ≡ (ltb q n && matchb (wantOf (getD rules i no-rule .right) (labelAt nodes q))))
+  pub rights-more : (i w : ℕ) (rights : List ℕ) → i < length rights
+      → ((q : ℕ) → flag w q ≡ (ltb q n && matchb (wantOf (getD rules i no-rule .right) (labelAt nodes q))))
       → Rights nodes n rules i rights → Rights nodes n rules (i + 1) (set rights i w)
   rights-more i w rights len f was j q h = go (ℕ-discrete j i)
     where
@@ -129,20 +105,19 @@ module _ (nodes : List Node) (n : ℕ) (rules : List Rule) where
 
 -- ---- what `fitted` gives, by what the left side wants
 
-pub fitted-never : (w : Want) (R : Side) (row right close q : ℕ) → w ≡ Never → row ≡ 0 → flag row q ≡ part w R (flag right q) (flag close q)
-fitted-never w R row right close q e z = ap (λ (x : ℕ). flag x q) z ∙ flag-zero q ∙ ap (λ (x : Want). part x R (flag right q) (flag close q)) (sym e)
+module _ (rule : Rule) (l : Label) (right close : List ℕ) {w : Want} (wants : w ≡ wantOf (rule .left) l) where
+  -- of a node: `row` has it where the rule fits
+  abbrev Fits : ℕ → Type 0
+  Fits row = (q : ℕ) → flag row q ≡ part (wantOf (rule .left) l) (rule .right) (flag (whole right) q) (flag (whole close) q)
 
-pub fitted-free : (w : Want) (R : Side) (right close q : ℕ) → w ≡ Free → flag right q ≡ part w R (flag right q) (flag close q)
-fitted-free w R right close q e = ap (λ (x : Want). part x R (flag right q) (flag close q)) (sym e)
+  pub fitted-never : {row : ℕ} → w ≡ Never → row ≡ 0 → Fits row
+  fitted-never e z q = rw (z, ← wants, e) (flag-zero q)
 
-pub fitted-same : (w : Want) (R : Side) (x a row right close q : ℕ) → w ≡ Var x a → namesb R x ≡ true → row ≡ both right close → flag row q ≡ part w R (flag right q) (flag close q)
-fitted-same w R x a row right close q e s f =
-    ap (λ (y : ℕ). flag y q) f ∙ both-flag right close q ∙ ap (λ (y : Bool). flag right q && ifSame y (flag close q)) (sym s) ∙ ap (λ (y : Want). part y R (flag right q) (flag close q)) (sym e)
+  pub fitted-free : w ≡ Free → Fits (whole right)
+  fitted-free e q = rw (← wants, e)
 
-pub fitted-other : (w : Want) (R : Side) (x a right close q : ℕ) → w ≡ Var x a → namesb R x ≡ false → flag right q ≡ part w R (flag right q) (flag close q)
-fitted-other w R x a right close q e s =
-    sym (and-all (flag right q)) ∙ ap (λ (y : Bool). flag right q && ifSame y (flag close q)) (sym s) ∙ ap (λ (y : Want). part y R (flag right q) (flag close q)) (sym e)
-  where
-    and-all : (b : Bool) → (b && true) ≡ b
-    and-all true = refl
-    and-all false = refl
+  pub fitted-same : {x a row : ℕ} → w ≡ Var x a → namesb (rule .right) x ≡ true → row ≡ both (whole right) (whole close) → Fits row
+  fitted-same e s f q = rw (f, ← wants, e, s) (both-flag (whole right) (whole close) q)
+
+  pub fitted-other : {x a : ℕ} → w ≡ Var x a → namesb (rule .right) x ≡ false → Fits (whole right)
+  fitted-other e s q = rw (← wants, e, s) (sym (and-true (flag (whole right) q)))

@@ -15,7 +15,7 @@ use Rattle.graph.specs.declared.Side.{Side}
 use Rattle.graph.specs.declared.Side.the-variants.{Any, Is}
 use Rattle.graph.specs.declared.Want.{Want}
 use Rattle.graph.specs.declared.Want.the-variants.{Never, Free, Var}
-use Rattle.graph.specs.Fit.{wantOf, ifSame, ruledb}
+use Rattle.graph.specs.Tests.{wantOf, ifSame, ruledb}
 use Rattle.words.specs.Words.{listed, labelAt}
 
 -- a side that wants this matches, whatever its variable stands for

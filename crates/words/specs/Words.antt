@@ -13,7 +13,8 @@ use Rattle.graph.specs.declared.Label.{Label}
 use Rattle.graph.specs.declared.Label.the-variants.{Fence}
 use Rattle.graph.specs.declared.Node.{Node}
 use Rattle.graph.specs.declared.Rule.{Rule}
-use Rattle.graph.specs.Fit.{Ruled, ruledb}
+use Rattle.graph.specs.Fit.{Ruled}
+use Rattle.graph.specs.Tests.{ruledb}
 use Rattle.graph.specs.Graph.{Graph, Sound, label, no-edge}
 use Rattle.graph.specs.Held.{Step}
 use Rattle.graph.specs.Value.{rulesOf}

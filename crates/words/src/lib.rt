@@ -19,12 +19,12 @@ ghost use Prim.Native.Nat.{ℕ, _≤_};
 ghost use lib.Dec.{ltb};
 ghost use lib.ListN.{length, take};
 ghost use Rattle.flags.specs.Flag.{flag};
-ghost use Rattle.graph.specs.Fit.{wantOf};
+ghost use Rattle.graph.specs.Tests.{wantOf};
 ghost use Rattle.graph.specs.Graph.{Sound};
 ghost use Rattle.graph.specs.Limits.{most-nodes, most-edges, most-rules};
 ghost use Rattle.graph.specs.Value.{graphOf, Sized, Ends};
 ghost use Rattle.sets.specs.Whole.{whole, rows};
-ghost use Rattle.words.specs.Words.{listed, Led, labelAt, fitIn, Fitted};
+ghost use Rattle.words.specs.Words.{listed, Led, labelAt, fitIn};
 ghost use Rattle.words.specs.Rows.{matchb, addressedb, nearb, namesb, part, RowOf, Rights};
 
 // A set for each node.
@@ -190,8 +190,9 @@ fn rights_of(
     rights
 }
 
-// For each node p the nodes q such that some rule fits their labels.
-fn fits_words(nodes: [Node; Graph::NODES], n: usize, rules: [Rule; Graph::RULES], m: usize) -> Sets
+// For each of the first n nodes those such that one of the first m rules fits their labels. It takes the arrays and not the graph, since
+// through one function more the table is copied once more.
+pub fn fits_of(nodes: [Node; Graph::NODES], n: usize, rules: [Rule; Graph::RULES], m: usize) -> Sets
     requires { ⌜ (n ≤ most-nodes) × (m ≤ most-rules) ⌝ }
     ensures { λ r. ⌜ ((p q : ℕ) → listed (rows r) p q ≡ fitIn nodes n (take m rules) p q) ⌝ }
 {
@@ -213,14 +214,4 @@ pub fn succ_of(g: Graph) -> Sets
 {
     let edges = g.edges;
     succ_words(edges, g.edge_count)
-}
-
-// For each node of a graph the nodes that some rule fits with it.
-pub fn fits_of(g: Graph) -> Sets
-    requires { ⌜ Sized g ⌝ }
-    ensures { λ r. ⌜ Fitted g (rows r) ⌝ }
-{
-    let nodes = g.nodes;
-    let rules = g.rules;
-    fits_words(nodes, g.node_count, rules, g.rule_count)
 }

@@ -1,11 +1,9 @@
--- What it is to write a list of bytes into a buffer, and the request that a graph by value holds.
+-- What it is to write a list of bytes into a buffer, and how many a graph by value takes.
 -- Assumes nothing.
 use mathlib.Core.List.{List, _++_}
 use mathlib.Core.Path.{_≡_}
 use Prim.Native.Nat.{_*_, _+_, _≤_, ℕ}
 use lib.ListN.{drop, length, take}
-use Rattle.graph.specs.Value.{graphOf, ordersOf, rulesOf}
-use Rattle.request.specs.File.{Request}
 use Rattle.graph.specs.declared.Graph as Value
 
 -- the buffer before with the bytes xs written from at up to end is the buffer after: "Bytes and entries past the length written keep their values."
@@ -13,10 +11,6 @@ pub record Written (before after : List ℕ) (at end : ℕ) (xs : List ℕ) : Ty
   pub next : end ≡ at + length xs
   pub room : end ≤ length before
   pub bytes : after ≡ take at before ++ xs ++ drop end before
-
--- the request that a graph by value holds
-abbrev pub requestIn : Value.Graph → Request
-requestIn g = record { graph = graphOf g; rules = rulesOf g; orders = ordersOf g }
 
 -- how many bytes its records are, EN included
 abbrev pub sizeOf : Value.Graph → ℕ

@@ -18,7 +18,8 @@ ghost use lib.ListN.{length, take};
 ghost use Rattle.graph.specs.Limits.{most-nodes, most-edges, most-rules, most-orders};
 ghost use Rattle.graph.specs.Value.{labels, Sized};
 ghost use Rattle.request.specs.File.{node-bytes, edge-bytes, rule-bytes, order-bytes, bytes};
-ghost use Rattle.writing.specs.Write.{Written, requestIn, sizeOf};
+ghost use Rattle.writing.specs.Write.{Written, sizeOf};
+ghost use Rattle.request.specs.Value.{requestIn};
 
 fn put_nodes(out: &mut [u8], nodes: [Node; Graph::NODES], n: usize) -> usize
     requires { ⌜ (n ≤ most-nodes) × (n * 4 ≤ length (now out)) ⌝ }

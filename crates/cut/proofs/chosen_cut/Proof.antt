@@ -1,15 +1,17 @@
--- `cut::chosen_cut` meets its contract: the open orders are found, the edges copied, the pairs gathered, and the search's answer is the chosen cut of the graph.
+-- `cut::chosen_cut` meets its contract: the open orders are found, the edges copied, the pairs gathered, and the search's answer is the chosen cut.
 -- Assumes nothing.
 use Prim.Native.Nat.{ℕ, _≤_}
 use native.Mathlib.Omega.{arith}
+use lib.ListN.{length}
 use borrow.Author.Needs.{needs}
-use Rattle.cut.specs.Given.{Gathered}
-use Rattle.graph.specs.Limits.{most-edges, most-orders}
+use Rattle.cut.specs.Given.{Paired}
+use Rattle.graph.specs.Limits.{most-orders}
 use Rattle.route.specs.Way.{Net}
 use Rattle.route.proofs.Ways.{net-ends}
 use Rattle.sets.specs.Whole.{rows}
 use Rattle.words.proofs.Made.{ruling}
 use Rattle.cut.proofs.Drawn.{lent}
+use Rattle.cut.proofs.Gathered.{gathered-paired}
 use Rattle.cut.proofs.Given.{given-differ, given-net, given-known, given-chosen}
 use Rattle.cut.proofs.chosen_cut.Statement.{statement}
 use Rattle.cut.proofs.chosen_cut.Tie as tie
@@ -23,10 +25,11 @@ module _ (c : tie.After-copied) where
   fitted = opened .before .before .before
 
   abbrev start : tie.Start
-  start = fitted .before
+  start = fitted .before .before .before
 
-  few-edges : start .args .g .«edge_count» ≤ most-edges
-  few-edges = start .pre .0 .edges
+  -- the copies have room for the edges
+  room : let n = start .args .g .«edge_count» in let r = c .copied .result in (n ≤ length (r .from)) × (n ≤ length (r .to)) × (n ≤ length (r .weights))
+  room = let s = c .copied .ensures .1 .sizes in let few = start .pre .0 .edges in (omega (arith, s .0), omega (arith, s .1), omega (arith, s .2))
 
 -- and once the pairs are gathered
 module _ (c : tie.After-gather) where
@@ -37,7 +40,9 @@ module _ (c : tie.After-gather) where
   count = start copied .args .g .«edge_count»
 
   net : Net (lent count (copied .copied .result .from)) (lent count (copied .copied .result .to))
-  net = let p = start copied .pre in given-net _ (p .0) (p .2) (c .gather .ensures .0) _ _ _ _ (c .gather .ensures .1) (p .1) (copied .copied .ensures .0) _ _ _ (copied .copied .ensures .1)
+  net =
+      let p = start copied .pre in let e = copied .copied .ensures in
+      given-net (p .0) (p .2) (c .gather .ensures .0) (gathered-paired (c .gather .ensures .1)) (p .1) (e .0) (e .1)
 
 -- the edges are linked by their starts, and before by their ends
 abbrev linked : tie.After-link2 → tie.After-link
@@ -57,78 +62,69 @@ module _ (c : tie.After-near-first) where
   abbrev begun : tie.Start
   begun = start (copied pairs)
 
-  paired : Gathered (begun .args .g .orders) (opened (copied pairs) .open-orders .result) (c .near-first .result .firsts) (c .near-first .result .seconds) (c .near-first .result .count) (begun .args .g .«order_count»)
-  paired = c .near-first .ensures _ _ _ (pairs .gather .ensures .1)
+  paired : let g = begun .args .g in let r = c .near-first .result in
+      Paired (g .orders) (opened (copied pairs) .open-orders .result) (r .firsts) (r .seconds) (r .count) (g .«order_count»)
+  paired = c .near-first .ensures _ _ _ (gathered-paired (pairs .gather .ensures .1))
 
   few : begun .args .g .«order_count» ≤ most-orders
   few = begun .pre .0 .orders
-
-open-orders-requires : tie.Need-open-orders-requires
-open-orders-requires c κs = let f = c .before .before in (f .before .pre, f .fits-of .ensures)
 
 near-first-requires : tie.Need-near-first-requires
 near-first-requires c κs =
     let li = linked (c .before .before .before .before .before .before) in
     let ga = gathered li in
     let p = start (copied ga) .pre in
-    let y = ga .gather .ensures .1 in
-    ((net ga, li .link .ensures .1), (omega (arith, y .few, p .0 .orders), given-differ _ (p .0) (p .2) (ga .gather .ensures .0) _ _ _ _ y))
+    let y = gathered-paired (ga .gather .ensures .1) in
+    ((net ga, li .link .ensures .1), (omega (arith, y .few, p .0 .orders), given-differ (p .0) (p .2) (ga .gather .ensures .0) y))
+
+-- the parts of the lists are lent to the search one after the other
+abbrev near : tie.After-weights2 → tie.After-near-first
+near c = c .before .before .before .before .before .before .before .before .before .before
 
 best-requires : tie.Need-best-requires
 best-requires c κs =
-    let nf = c .before .before .before .before .before .before .before .before .before .before .before .before .before .before .before .before in
+    let nf = near (c .before .before .before .before .before .before) in
     let ga = pairs nf in
     let co = copied ga in
     let p = start co .pre in
-    given-known _ (p .0) (p .2) (ga .gather .ensures .0) _ _ _ _ (paired nf) (p .1) (co .copied .ensures .0) _ _ _ (co .copied .ensures .1) _ _ (linked (both nf) .link .ensures .1) (both nf .link2 .ensures .1)
+    given-known (p .0) (p .2) (ga .gather .ensures .0) (paired nf) (p .1) (co .copied .ensures .0) (co .copied .ensures .1)
+    (linked (both nf) .link .ensures .1) (both nf .link2 .ensures .1)
 
 returns : tie.Need-returns
 returns c =
-    let nf = c .before .before .before .before .before .before .before .before .before .before .before .before .before .before .before .before .before in
+    let nf = near (c .before .before .before .before .before .before .before) in
     let ga = pairs nf in
     let co = copied ga in
-    let st = start co in
-    let p = st .pre in
+    let p = start co .pre in
     let f = fitted co .fits-of in
-    given-chosen _ (p .0) (p .2) (ga .gather .ensures .0) _ _ _ _ (paired nf) (p .1) (co .copied .ensures .0) _ _ _ (co .copied .ensures .1) (rows (f .result)) (ruling (st .args .g) (rows (f .result)) (f .ensures)) (opened co .open-orders .ensures) _ (c .best .ensures .0) (c .best .ensures .1)
+    given-chosen (p .0) (p .2) (ga .gather .ensures .0) (paired nf) (p .1) (co .copied .ensures .0) (co .copied .ensures .1) (rows (f .result))
+    (ruling (start co .args .g) (rows (f .result)) (f .ensures)) (opened co .open-orders .ensures) _ (c .best .ensures .0) (c .best .ensures .1)
 
 pub chosen-cut-spec : {M : Type 1} → statement M
-chosen-cut-spec =
-    tie.close
-    (tie.spec
+chosen-cut-spec = tie.close (tie.spec
     (λ c κs. search needs)  -- fits-of-requires
-    open-orders-requires
-    (λ c κs. c .before .before .before .before .before .pre .0 .edges)  -- copied-requires
+    (λ c κs. let f = c .before .before in (f .before .before .before .pre, f .fits-of .ensures))  -- open-orders-requires
+    (λ c κs. c .before .before .before .before .before .before .before .pre .0 .edges)  -- copied-requires
     (λ c κs. start (c .before .before .before .before) .pre .0 .orders)  -- gather-requires
-    (λ c. search needs)  -- sub-link
-    (λ c. search needs)  -- part-link-start
-    (λ c. search needs)  -- part-link-end
+    (λ c. search needs) (λ c. search needs) (λ c. search needs)  -- sub-link, part-link-start, part-link-end
     (λ c κs. net-ends _ _ (net (c .before .before)))  -- link-requires
-    (λ c. search needs)  -- sub-link-2
-    (λ c. search needs)  -- part-link-start-2
-    (λ c. search needs)  -- part-link-end-2
+    (λ c. search needs) (λ c. search needs)  -- sub-link-2, part-link-start-2
+    (λ c. omega (arith, room (copied (gathered (c .before .before))) .0))  -- part-link-end-2
     (λ c κs. let n = net (c .before .before .before .before .before .before) in (n .few, n .tail))  -- link-requires-2
-    (λ c. search needs)  -- sub-near-first
-    (λ c. search needs)  -- part-near-first-start
-    (λ c. let co = copied (gathered (linked (c .before .before))) in omega (arith, few-edges co, co .copied .ensures .1 .sizes .0))  -- part-near-first-end
-    (λ c. search needs)  -- sub-near-first-2
-    (λ c. search needs)  -- part-near-first-start-2
-    (λ c. let co = copied (gathered (linked (c .before .before .before .before))) in omega (arith, few-edges co, co .copied .ensures .1 .sizes .1))  -- part-near-first-end-2
+    (λ c. search needs) (λ c. search needs)  -- sub-near-first, part-near-first-start
+    (λ c. omega (arith, room (copied (gathered (linked (c .before .before)))) .0))  -- part-near-first-end
+    (λ c. search needs) (λ c. search needs)  -- sub-near-first-2, part-near-first-start-2
+    (λ c. omega (arith, room (copied (gathered (linked (c .before .before .before .before)))) .1))  -- part-near-first-end-2
     near-first-requires
-    (λ c. search needs)  -- sub-best
-    (λ c. search needs)  -- part-best-start
-    (λ c. let co = copied (pairs (c .before .before .before)) in omega (arith, few-edges co, co .copied .ensures .1 .sizes .0))  -- part-best-end
-    (λ c. search needs)  -- sub-best-2
-    (λ c. search needs)  -- part-best-start-2
-    (λ c. let co = copied (pairs (c .before .before .before .before .before)) in omega (arith, few-edges co, co .copied .ensures .1 .sizes .1))  -- part-best-end-2
-    (λ c. search needs)  -- sub-best-3
-    (λ c. search needs)  -- part-best-start-3
-    (λ c. let co = copied (pairs (c .before .before .before .before .before .before .before .before .before .before)) in omega (arith, few-edges co, co .copied .ensures .1 .sizes .2))  -- part-best-end-3
-    (λ c. search needs)  -- sub-best-4
-    (λ c. search needs)  -- part-best-start-4
-    (λ c. let nf = c .before .before .before .before .before .before .before .before .before .before .before .before in let y = paired nf in omega (arith, y .few, y .sizes .0, few nf))  -- part-best-end-4
-    (λ c. search needs)  -- sub-best-5
-    (λ c. search needs)  -- part-best-start-5
-    (λ c. let nf = c .before .before .before .before .before .before .before .before .before .before .before .before .before .before in let y = paired nf in omega (arith, y .few, y .sizes .1, few nf))  -- part-best-end-5
+    (λ c. search needs) (λ c. search needs)  -- sub-best, part-best-start
+    (λ c. omega (arith, room (copied (pairs (c .before .before .before))) .0))  -- part-best-end
+    (λ c. search needs) (λ c. search needs)  -- sub-best-2, part-best-start-2
+    (λ c. omega (arith, room (copied (pairs (c .before .before .before .before .before))) .1))  -- part-best-end-2
+    (λ c. search needs) (λ c. search needs)  -- sub-best-3, part-best-start-3
+    (λ c. omega (arith, room (copied (pairs (near c))) .2))  -- part-best-end-3
+    (λ c. search needs) (λ c. search needs)  -- sub-best-4, part-best-start-4
+    (λ c. let nf = near (c .before .before) in omega (arith, paired nf .few, paired nf .sizes .0, few nf))  -- part-best-end-4
+    (λ c. search needs) (λ c. search needs)  -- sub-best-5, part-best-start-5
+    (λ c. let nf = near (c .before .before .before .before) in omega (arith, paired nf .few, paired nf .sizes .1, few nf))  -- part-best-end-5
     best-requires
     returns)

@@ -4,12 +4,11 @@ use Rattle.flags.specs.Flag.{above}
 use Rattle.flags.proofs.above.Statement.{statement}
 use Rattle.flags.proofs.above.Tie as tie
 
-shr-result : tie.Need-shr-result
-shr-result c = search needs
-
 returns : tie.Need-returns
 unfolding above
 returns c = search needs
 
 pub above-spec : {M : Type 1} → statement M
-above-spec = tie.close (tie.spec shr-result returns)
+above-spec = tie.close (tie.spec
+    (λ c. search needs)  -- shr-result
+    returns)

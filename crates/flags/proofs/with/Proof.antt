@@ -5,12 +5,11 @@ use Rattle.flags.proofs.Put.{one-shl}
 use Rattle.flags.proofs.with.Statement.{statement}
 use Rattle.flags.proofs.with.Tie as tie
 
-shl-result : tie.Need-shl-result
-shl-result c = search needs
-
 returns : tie.Need-returns
 unfolding put
 returns c = rw (one-shl (c .args .k) (c .pre))
 
 pub with-spec : {M : Type 1} → statement M
-with-spec = tie.close (tie.spec shl-result returns)
+with-spec = tie.close (tie.spec
+    (λ c. search needs)  -- shl-result
+    returns)

@@ -9,22 +9,14 @@ use borrow.Author.Needs.{needs}
 use Rattle.hope.proofs.came_open.Statement.{statement}
 use Rattle.hope.proofs.came_open.Tie as tie
 
-returns : tie.Need-returns
-returns c =
-    λ e h. absurd (true≢false (sym h ∙ sym (c .before .has .ensures) ∙ not-true _ (c .if1 .taken)))
-
 returns-2 : tie.Need-returns-2
 returns-2 c =
     let s = c .before .before .before .before .before in
     λ e h. ap (λ (w : ℕ). flag w (s .args .goal)) (row-at (s .args .least .now) (s .args .goal)) ∙ sym (c .has2 .ensures) ∙ not-false _ e
 
 pub came-open-spec : {M : Type 1} → statement M
-came-open-spec =
-    tie.close
-    (tie.spec
+came-open-spec = tie.close (tie.spec
     (λ c κs. search needs)  -- has-requires
-    returns
-    (λ c. search needs)  -- mul-has
-    (λ c. search needs)  -- index-1-has
-    (λ c κs. search needs)  -- has-requires-2
+    (λ c. λ e h. absurd (true≢false (sym h ∙ sym (c .before .has .ensures) ∙ not-true _ (c .if1 .taken))))  -- returns
+    (λ c. search needs) (λ c. search needs) (λ c κs. search needs)  -- mul-has, index-1-has, has-requires-2
     returns-2)

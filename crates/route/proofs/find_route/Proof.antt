@@ -9,8 +9,8 @@ use lib.ListN.{length, getD}
 use borrow.Author.Tests.{not-true}
 use Rattle.graph.specs.Limits.{most-nodes}
 use Rattle.route.specs.Spread.{Spread}
-use Rattle.route.specs.Way.{Net, Linked}
-use Rattle.route.proofs.Spreads.{start-far, spread-start, spread-none, spread-near, Looking, node-known, look-start, look-near, look-less, look-pass, look-seen, look-room, look-mark, look-end}
+use Rattle.route.specs.Way.{Net, EdgeLists}
+use Rattle.route.proofs.Spreads.{start-far, spread-start, spread-next, spread-none, spread-near, Looking, look-start, look-near, look-less, look-pass, look-seen, look-room, look-mark}
 use Rattle.route.proofs.Traced.{none-found}
 use Rattle.route.proofs.Ways.{net-ends, way-sealed}
 use borrow.Author.Needs.{needs}
@@ -40,14 +40,20 @@ module _ (l : tie.At-loop2 Inv-loop2 μ-loop2 Inv-loop μ-loop) where
   abbrev net : Net (start .args .from .now) (start .args .to .now)
   net = start .pre .0 .0
 
-  abbrev linked : Linked (start .args .to .now) (start .args .links .now) 0
+  abbrev linked : EdgeLists (start .args .to .now) (start .args .links .now) 0
   linked = start .pre .0 .1
 
 -- when all of them have been
-looked : (c : tie.After-loop2 Inv-loop2 μ-loop2 Inv-loop μ-loop) → let l = c .before in Spread (start l .args .from .now) (start l .args .to .now) (start l .args .left .now) (start l .args .goal) (l .loop2 .dist) (l .loop2 .via) (l .loop2 .out) (l .loop2 .count) (turn l .before .loop .i + 1) 0
-looked c =
-    let l = c .before in
-    look-end _ _ _ _ _ (net l) (linked l) _ _ _ _ _ _ _ _ (l .loop2 .inv) (c .loop2-test .left)
+module _ (c : tie.After-loop2 Inv-loop2 μ-loop2 Inv-loop μ-loop) where
+  abbrev ended : tie.At-loop2 Inv-loop2 μ-loop2 Inv-loop μ-loop
+  ended = c .before
+
+  abbrev given : tie.Start Inv-loop2 μ-loop2 Inv-loop μ-loop
+  given = start ended
+
+  looked : Spread (given .args .from .now) (given .args .to .now) (given .args .left .now) (given .args .goal)
+      (ended .loop2 .dist) (ended .loop2 .via) (ended .loop2 .out) (ended .loop2 .count) (turn ended .before .loop .i + 1) 0
+  looked = spread-next (ended .loop2 .inv .spread) (c .loop2-test .left)
 
 -- an edge with something left, and the node where it starts
 module _ (w : tie.After-wide3 Inv-loop2 μ-loop2 Inv-loop μ-loop) where
@@ -61,241 +67,97 @@ module _ (w : tie.After-wide3 Inv-loop2 μ-loop2 Inv-loop μ-loop) where
 at-node : (c : tie.After-wide Inv-loop2 μ-loop2 Inv-loop μ-loop) → c .wide .result < most-nodes
 at-node c =
     let l = c .before .before .before in
-    let st = l .before .before .before .before .before in
-    node-known _ _ _ _ _ (st .pre .0 .0) (st .pre .0 .1) _ _ _ _ _ _ 0 (l .loop .inv .0) (omega (arith, c .before .before .loop-test .taken)) (c .wide .ensures .0)
-
-ends-left-requires : tie.Need-ends-left-requires Inv-loop2 μ-loop2 Inv-loop μ-loop
-ends-left-requires c κs =
-    let st = c .before .before in
-    let ends = net-ends _ _ (st .pre .0 .0) in
-    (ends .0, st .pre .1 .0 .1, st .pre .0 .1)
+    omega (arith, c .wide .ensures .0, l .loop .inv .0 .known (l .loop .i) (omega (arith, c .before .before .loop-test .taken)) .0)
 
 returns : tie.Need-returns Inv-loop2 μ-loop2 Inv-loop μ-loop
 returns c =
     let st = c .before .before .before .before in
-    (st .pre .1 .1, none-found _ _ _ _ _ _ (λ es w. st .pre .1 .0 .2 (way-sealed _ _ (st .args .left .now) _ (st .pre .0 .0 .both) (c .before .ends-left .ensures (not-true _ (c .if1 .taken))) _ es w)))
-
-mul-dist : tie.Need-mul-dist Inv-loop2 μ-loop2 Inv-loop μ-loop
-mul-dist c = search needs
-
-array-write-dist : tie.Need-array-write-dist Inv-loop2 μ-loop2 Inv-loop μ-loop
-array-write-dist c = search needs
-
-cast-out : tie.Need-cast-out Inv-loop2 μ-loop2 Inv-loop μ-loop
-cast-out c = search needs
-
-element-write-out : tie.Need-element-write-out Inv-loop2 μ-loop2 Inv-loop μ-loop
-element-write-out c = search needs
+    let none-left = c .before .ends-left .ensures (not-true _ (c .if1 .taken)) in
+    (st .pre .1 .1, none-found (λ es w. st .pre .1 .0 .2 (way-sealed _ _ (st .args .left .now) _ (st .pre .0 .0 .both) none-left _ es w)))
 
 loop-holds : tie.Need-loop-holds Inv-loop2 μ-loop2 Inv-loop μ-loop
 loop-holds c =
     let st = c .before .before .before .before in
-    (spread-start _ _ _ _ _ _ (st .args .out .now) _ _ (st .pre .1 .0 .1) refl refl (st .pre .1 .1) refl refl, start-far _ _ _ refl (st .pre .1 .0 .0) (st .pre .1 .0 .2))
-
-mul-wide : tie.Need-mul-wide Inv-loop2 μ-loop2 Inv-loop μ-loop
-mul-wide c = search needs
-
-element-copy-out-wide : tie.Need-element-copy-out-wide Inv-loop2 μ-loop2 Inv-loop μ-loop
-element-copy-out-wide c = let r = c .before .loop .inv .0 in omega (arith, c .loop-test .taken, r .all, r .room)
-
-wide-requires : tie.Need-wide-requires Inv-loop2 μ-loop2 Inv-loop μ-loop
-wide-requires c κs = search needs
-
-mul-d : tie.Need-mul-d Inv-loop2 μ-loop2 Inv-loop μ-loop
-mul-d c = search needs
-
-array-read-d : tie.Need-array-read-d Inv-loop2 μ-loop2 Inv-loop μ-loop
-array-read-d c = at-node c
-
-mul-wide-2 : tie.Need-mul-wide-2 Inv-loop2 μ-loop2 Inv-loop μ-loop
-mul-wide-2 c = search needs
-
-element-copy-out-wide-2 : tie.Need-element-copy-out-wide-2 Inv-loop2 μ-loop2 Inv-loop μ-loop
-element-copy-out-wide-2 c = omega (arith, at-node c)
-
-wide-requires-2 : tie.Need-wide-requires-2 Inv-loop2 μ-loop2 Inv-loop μ-loop
-wide-requires-2 c κs = search needs
+    let p = st .pre .1 in
+    (spread-start _ _ (st .args .out .now) _ (p .0 .1) refl refl (p .1) refl, start-far _ _ _ refl (p .0 .0) (p .0 .2))
 
 loop2-holds : tie.Need-loop2-holds Inv-loop2 μ-loop2 Inv-loop μ-loop
 loop2-holds c =
     let w = c .before .before in
     let l = w .before .before .before in
-    let st = l .before .before .before .before .before in
-    look-start _ _ _ _ _ (st .pre .0 .0) (st .pre .0 .1) _ _ _ _ _ _ _ (l .loop .inv .0) (omega (arith, w .before .before .loop-test .taken)) (w .wide .ensures .0) (c .wide2 .ensures .0)
-
-mul-if2 : tie.Need-mul-if2 Inv-loop2 μ-loop2 Inv-loop μ-loop
-mul-if2 c = search needs
-
-element-copy-out-if2 : tie.Need-element-copy-out-if2 Inv-loop2 μ-loop2 Inv-loop μ-loop
-element-copy-out-if2 c = search needs
-
-mul-f : tie.Need-mul-f Inv-loop2 μ-loop2 Inv-loop μ-loop
-mul-f c = search needs
-
-shared-slice-read-f : tie.Need-shared-slice-read-f Inv-loop2 μ-loop2 Inv-loop μ-loop
-shared-slice-read-f c = search needs
-
-wide-requires-3 : tie.Need-wide-requires-3 Inv-loop2 μ-loop2 Inv-loop μ-loop
-wide-requires-3 c κs = search needs
-
-mul-if3 : tie.Need-mul-if3 Inv-loop2 μ-loop2 Inv-loop μ-loop
-mul-if3 c = search needs
-
-array-read-if3 : tie.Need-array-read-if3 Inv-loop2 μ-loop2 Inv-loop μ-loop
-array-read-if3 c = within c
-
-add-dist : tie.Need-add-dist Inv-loop2 μ-loop2 Inv-loop μ-loop
-add-dist c =
-    let l = edge (c .before) .before in
-    let near = look-near _ _ _ _ _ (net l) (linked l) _ _ _ _ _ _ _ _ (l .loop2 .inv) in
-    search (needs, near, l .loop2 .inv .spread .all)
-
-mul-dist-2 : tie.Need-mul-dist-2 Inv-loop2 μ-loop2 Inv-loop μ-loop
-mul-dist-2 c = search needs
-
-array-write-dist-2 : tie.Need-array-write-dist-2 Inv-loop2 μ-loop2 Inv-loop μ-loop
-array-write-dist-2 c = within (c .before)
-
-cast-via : tie.Need-cast-via Inv-loop2 μ-loop2 Inv-loop μ-loop
-cast-via c = search needs
-
-mul-via : tie.Need-mul-via Inv-loop2 μ-loop2 Inv-loop μ-loop
-mul-via c = search needs
-
-array-write-via : tie.Need-array-write-via Inv-loop2 μ-loop2 Inv-loop μ-loop
-array-write-via c = within (c .before)
-
-mul-out : tie.Need-mul-out Inv-loop2 μ-loop2 Inv-loop μ-loop
-mul-out c = search needs
+    let p = l .before .before .before .before .before .pre .0 in
+    look-start (p .0) (p .1) (l .loop .inv .0) (omega (arith, w .before .before .loop-test .taken)) (w .wide .ensures .0) (c .wide2 .ensures .0)
 
 element-write-out-2 : tie.Need-element-write-out-2 Inv-loop2 μ-loop2 Inv-loop μ-loop
 element-write-out-2 c =
     let w = c .before in
     let l = edge w .before in
-    look-room _ _ _ _ _ (net l) (linked l) _ _ _ _ _ _ _ _ (l .loop2 .inv) _ (edge w .loop2-test .taken) (pos-of-ne-zero (w .before .before .if2 .taken)) (w .wide3 .ensures .0) (c .if3 .taken)
-
-add-count : tie.Need-add-count Inv-loop2 μ-loop2 Inv-loop μ-loop
-add-count c = search needs
-
-add-wide : tie.Need-add-wide Inv-loop2 μ-loop2 Inv-loop μ-loop
-add-wide c = search needs
-
-mul-wide-3 : tie.Need-mul-wide-3 Inv-loop2 μ-loop2 Inv-loop μ-loop
-mul-wide-3 c = search needs
-
-element-copy-out-wide-3 : tie.Need-element-copy-out-wide-3 Inv-loop2 μ-loop2 Inv-loop μ-loop
-element-copy-out-wide-3 c =
-    let n = c .before .before in
-    omega (arith, n .loop2-test .taken, net (n .before) .few)
-
-wide-requires-4 : tie.Need-wide-requires-4 Inv-loop2 μ-loop2 Inv-loop μ-loop
-wide-requires-4 c κs = search needs
-
-loop2-less : tie.Need-loop2-less Inv-loop2 μ-loop2 Inv-loop μ-loop
-loop2-less c =
-    let n = c .before .before .before .before in
-    let l = n .before in
-    omega (arith, look-less _ _ _ _ _ (net l) (linked l) _ _ _ _ _ _ _ _ (l .loop2 .inv) _ (n .loop2-test .taken) (c .wide4 .ensures .0))
+    let left = pos-of-ne-zero (w .before .before .if2 .taken) in
+    look-room (net l) (linked l) (l .loop2 .inv) (edge w .loop2-test .taken) left (w .wide3 .ensures .0) (c .if3 .taken)
 
 loop2-again : tie.Need-loop2-again Inv-loop2 μ-loop2 Inv-loop μ-loop
 loop2-again c =
-    let j = c .before .before in
-    let n = j .before .before in
+    let n = c .before .before .before .before in
     let l = n .before in
-    let q = c .wide4 .ensures .0 in
     let lt = n .loop2-test .taken in
-    let pass = look-pass _ _ _ _ _ (net l) (linked l) _ _ _ _ _ _ _ _ (l .loop2 .inv) _ lt q in
-    ⊎-elim (λ a. rw (a .4, a .5, a .6, a .7) (look-mark _ _ _ _ _ (net l) (linked l) _ _ _ _ _ _ _ _ (l .loop2 .inv) _ lt (pos-of-ne-zero (a .0 .taken)) (a .2 .ensures .0) (a .3 .taken) _ q))
-    (⊎-elim (λ a. rw (a .4, a .5, a .6, a .7) (pass (λ o. look-seen _ _ _ _ _ (net l) (linked l) _ _ _ _ _ _ _ _ (l .loop2 .inv) _ lt (a .2 .ensures .0) (a .3 .left))))
+    let q = c .wide4 .ensures .0 in
+    let pass = look-pass (net l) (linked l) (l .loop2 .inv) lt q in
+    ⊎-elim
+    (λ a. let left = pos-of-ne-zero (a .0 .taken) in
+    rw (a .4, a .5, a .6, a .7) (look-mark (net l) (linked l) (l .loop2 .inv) lt left (a .2 .ensures .0) (a .3 .taken) q))
+    (⊎-elim (λ a. rw (a .4, a .5, a .6, a .7) (pass (λ o. look-seen (net l) (linked l) (l .loop2 .inv) lt (a .2 .ensures .0) (a .3 .left))))
     (λ a. rw (a .1, a .2, a .3, a .4) (pass (λ o. absurd (omega (arith, a .0 .left, o))))))
-    (j .if2 .came)
-
-add-i : tie.Need-add-i Inv-loop2 μ-loop2 Inv-loop μ-loop
-add-i c =
-    let t = turn (c .before) in
-    search (needs, t .loop-test .taken, t .before .loop .inv .0 .all)
-
-mul-if4 : tie.Need-mul-if4 Inv-loop2 μ-loop2 Inv-loop μ-loop
-mul-if4 c = search needs
-
-array-read-if4 : tie.Need-array-read-if4 Inv-loop2 μ-loop2 Inv-loop μ-loop
-array-read-if4 c = omega (arith, start (c .before) .pre .1 .0 .0, c .before .loop2 .inv .spread .long)
+    (c .before .before .if2 .came)
 
 trace-requires : tie.Need-trace-requires Inv-loop2 μ-loop2 Inv-loop μ-loop
 trace-requires c κs =
     let n = c .before .before .before .before in
-    let l = n .before in
-    let st = start l in
-    ((net l, looked n .led), ((st .pre .1 .0 .0, st .pre .1 .0 .2, omega (arith, spread-near _ _ _ _ _ _ _ _ _ _ (looked n) _ (st .pre .1 .0 .0) (c .before .before .before .if4 .taken), looked n .all)), looked n .room))
-
-returns-2 : tie.Need-returns-2 Inv-loop2 μ-loop2 Inv-loop μ-loop
-returns-2 c = search needs
-
-loop-less : tie.Need-loop-less Inv-loop2 μ-loop2 Inv-loop μ-loop
-loop-less c =
-    let t = turn (c .before .before) in
-    omega (arith, t .loop-test .taken, t .before .loop .inv .0 .all)
-
-loop-again : tie.Need-loop-again Inv-loop2 μ-loop2 Inv-loop μ-loop
-loop-again c = (looked (c .before), omega (arith, c .if4 .left))
+    let p = given n .pre .1 .0 in
+    let near = spread-near (looked n) _ (p .0) (c .before .before .before .if4 .taken) in
+    ((net (n .before), looked n .led), ((p .0, p .2, omega (arith, near, looked n .all)), looked n .room))
 
 returns-3 : tie.Need-returns-3 Inv-loop2 μ-loop2 Inv-loop μ-loop
 returns-3 c =
     let l = c .before in
-    let st = l .before .before .before .before .before in
-    (l .loop .inv .0 .room, none-found _ _ _ _ _ _ (spread-none _ _ _ _ _ _ _ _ _ _ (l .loop .inv .0) (st .pre .0 .0) (omega (arith, c .loop-test .left)) _ (l .loop .inv .1)))
+    let spread = l .loop .inv .0 in
+    let p = l .before .before .before .before .before .pre .0 in
+    (spread .room, none-found (spread-none spread (p .0) (omega (arith, c .loop-test .left)) _ (l .loop .inv .1)))
 
 pub find-route-spec : {M : Type 1} → statement M
-find-route-spec =
-    tie.close
-    (tie.spec
-    Inv-loop2
-    μ-loop2
-    Inv-loop
-    μ-loop
-    ends-left-requires
+find-route-spec = tie.close (tie.spec Inv-loop2 μ-loop2 Inv-loop μ-loop
+    (λ c κs. let st = c .before .before in let ends = net-ends _ _ (st .pre .0 .0) in (ends .0, st .pre .1 .0 .1, st .pre .0 .1))  -- ends-left-requires
     returns
-    mul-dist
-    array-write-dist
-    cast-out
-    element-write-out
+    (λ c. search needs) (λ c. search needs) (λ c. search needs) (λ c. search needs)  -- mul-dist, array-write-dist, cast-out, element-write-out
     loop-holds
-    mul-wide
-    element-copy-out-wide
-    wide-requires
-    mul-d
-    array-read-d
-    mul-wide-2
-    element-copy-out-wide-2
-    wide-requires-2
+    (λ c. search needs)  -- mul-wide
+    (λ c. let r = c .before .loop .inv .0 in omega (arith, c .loop-test .taken, r .all, r .room))  -- element-copy-out-wide
+    (λ c κs. search needs) (λ c. search needs)  -- wide-requires, mul-d
+    (λ c. at-node c)  -- array-read-d
+    (λ c. search needs)  -- mul-wide-2
+    (λ c. omega (arith, at-node c))  -- element-copy-out-wide-2
+    (λ c κs. search needs)  -- wide-requires-2
     loop2-holds
-    mul-if2
-    element-copy-out-if2
-    mul-f
-    shared-slice-read-f
-    wide-requires-3
-    mul-if3
-    array-read-if3
-    add-dist
-    mul-dist-2
-    array-write-dist-2
-    cast-via
-    mul-via
-    array-write-via
-    mul-out
+    (λ c. search needs) (λ c. search needs) (λ c. search needs) (λ c. search needs)  -- mul-if2, element-copy-out-if2, mul-f, shared-slice-read-f
+    (λ c κs. search needs) (λ c. search needs)  -- wide-requires-3, mul-if3
+    (λ c. within c)  -- array-read-if3
+    (λ c. let l = edge (c .before) .before in search (needs, look-near (net l) (linked l) (l .loop2 .inv), l .loop2 .inv .spread .all))  -- add-dist
+    (λ c. search needs)  -- mul-dist-2
+    (λ c. within (c .before))  -- array-write-dist-2
+    (λ c. search needs) (λ c. search needs)  -- cast-via, mul-via
+    (λ c. within (c .before))  -- array-write-via
+    (λ c. search needs)  -- mul-out
     element-write-out-2
-    add-count
-    add-wide
-    mul-wide-3
-    element-copy-out-wide-3
-    wide-requires-4
-    loop2-less
+    (λ c. search needs) (λ c. search needs) (λ c. search needs)  -- add-count, add-wide, mul-wide-3
+    (λ c. let n = c .before .before in omega (arith, n .loop2-test .taken, net (n .before) .few))  -- element-copy-out-wide-3
+    (λ c κs. search needs)  -- wide-requires-4
+    (λ c. let n = c .before .before .before .before in let l = n .before in
+    omega (arith, look-less (net l) (linked l) (l .loop2 .inv) (n .loop2-test .taken) (c .wide4 .ensures .0)))  -- loop2-less
     loop2-again
-    add-i
-    mul-if4
-    array-read-if4
+    (λ c. let t = turn (c .before) in search (needs, t .loop-test .taken, t .before .loop .inv .0 .all))  -- add-i
+    (λ c. search needs)  -- mul-if4
+    (λ c. omega (arith, start (c .before) .pre .1 .0 .0, c .before .loop2 .inv .spread .long))  -- array-read-if4
     trace-requires
-    returns-2
-    loop-less
-    loop-again
+    (λ c. search needs)  -- returns-2
+    (λ c. let t = turn (c .before .before) in omega (arith, t .loop-test .taken, t .before .loop .inv .0 .all))  -- loop-less
+    (λ c. (looked (c .before), omega (arith, c .if4 .left)))  -- loop-again
     returns-3)

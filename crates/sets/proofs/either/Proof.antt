@@ -1,58 +1,23 @@
 -- `sets::either` meets its contract: word by word.
-use mathlib.Core.Path.{_≡_, refl, _∙_}
-use Prim.Native.Nat.{_-_, _≤_, _<_}
-use native.Mathlib.Omega.{arith}
-use lib.ListN.{length, getD, replicate, length-set}
-use mir.Val.{Fits}
-use mir.Syntax.{w64}
+use Prim.Native.Nat.{_-_}
 use borrow.Author.Needs.{needs}
 use Rattle.flags.specs.Flag.{either}
-use Rattle.sets.specs.Whole.{words, Small}
-use Rattle.sets.proofs.Words.{Made, made-none, made-more, whole-op, either-none, either-block}
+use Rattle.sets.specs.Whole.{words}
+use Rattle.sets.proofs.Words.{WordsMade, made-none, made-more, made-all, either-words}
 use Rattle.sets.proofs.either.Statement.{statement}
 use Rattle.sets.proofs.either.Tie as tie
 
 abbrev Inv-loop : tie.InvT-loop
-Inv-loop a b r₀ i₀ r i = (i ≤ words) × (length r ≡ words) × Made either a b i r
+Inv-loop a b r₀ i₀ r i = WordsMade either a b i r
 
 abbrev μ-loop : tie.MeasureT-loop
 μ-loop a b r₀ i₀ r i = words - i
 
-loop-holds : tie.Need-loop-holds Inv-loop μ-loop
-loop-holds c = (search needs, refl, made-none either (c .args .t1) (c .args .t2) (replicate words 0))
-
-loop-again : tie.Need-loop-again Inv-loop μ-loop
-loop-again c =
-    let s = c .before .before .before .args in
-    let l = c .before .before .loop in
-    let room : l .i < length (l .r) = omega (arith, l .inv .1, c .before .loop-test .taken) in
-    (search needs, length-set (l .r) (l .i) (c .either .result) ∙ l .inv .1, made-more either (s .t1) (s .t2) (l .r) (l .i) (c .either .result) room (c .either .ensures) (l .inv .2))
-
-returns : tie.Need-returns Inv-loop μ-loop
-returns c =
-    let a = c .before .before .args .t1 in
-    let b = c .before .before .args .t2 in
-    let l = c .before .loop in
-    let smallA : Small a = λ i. let f : Fits w64 (getD a i 0) = search needs in f .fits in
-    let smallB : Small b = λ i. let f : Fits w64 (getD b i 0) = search needs in f .fits in
-    let end : l .i ≡ words = omega (arith, l .inv .0, c .loop-test .left) in
-    whole-op either either-none either-block a b (l .r) words (search needs) (search needs) (l .inv .1) smallA smallB (rw end at (l .inv .2))
-
 pub either-spec : {M : Type 1} → statement M
-either-spec =
-    tie.close
-    (tie.spec
-    Inv-loop
-    μ-loop
-    loop-holds
-    (λ c. search needs)  -- mul-either
-    (λ c. search needs)  -- array-read-either
-    (λ c. search needs)  -- mul-either-2
-    (λ c. search needs)  -- array-read-either-2
-    (λ c κs. search needs)  -- either-requires
-    (λ c. search needs)  -- mul-r
-    (λ c. search needs)  -- array-write-r
-    (λ c. search needs)  -- add-i
+either-spec = tie.close (tie.spec Inv-loop μ-loop
+    (λ c. made-none)  -- loop-holds
+    (λ c. search needs) (λ c. search needs) (λ c. search needs) (λ c. search needs)  -- mul-either, array-read-either, mul-either-2, array-read-either-2
+    (λ c κs. search needs) (λ c. search needs) (λ c. search needs) (λ c. search needs)  -- either-requires, mul-r, array-write-r, add-i
     (λ c. search needs)  -- loop-less
-    loop-again
-    returns)
+    (λ c. made-more (c .either .result) (c .before .loop-test .taken) (c .either .ensures) (c .before .before .loop .inv))  -- loop-again
+    (λ c. made-all either-words (c .before .loop .inv) (c .loop-test .left) (search needs) (search needs) (λ j. search needs) (λ j. search needs)))  -- returns

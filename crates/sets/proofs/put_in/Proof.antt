@@ -5,20 +5,9 @@ use borrow.Author.Needs.{needs}
 use Rattle.sets.proofs.put_in.Statement.{statement}
 use Rattle.sets.proofs.put_in.Tie as tie
 
-returns : tie.Need-returns
-returns c =
-    let f = c .before .before in
-    let s = f .before .before in
-    rw (c .with .ensures) (put-whole words (s .args .s .now) (s .args .k) (f .fit .ensures .0) (f .fit .ensures .1) (s .pre))
-
 pub put-in-spec : {M : Type 1} → statement M
-put-in-spec =
-    tie.close
-    (tie.spec
-    (λ c κs. search needs)  -- fit-requires
-    (λ c. search needs)  -- mul-with
-    (λ c. search needs)  -- element-copy-out-with
-    (λ c κs. search needs)  -- with-requires
-    (λ c. search needs)  -- mul-s
-    (λ c. search needs)  -- element-write-s
-    returns)
+put-in-spec = tie.close (tie.spec
+    (λ c κs. search needs) (λ c. search needs) (λ c. search needs) (λ c κs. search needs)  -- fit-requires, mul-with, element-copy-out-with, with-requires
+    (λ c. search needs) (λ c. search needs)  -- mul-s, element-write-s
+    (λ c. let f = c .before .before in let s = f .before .before in
+    rw (c .with .ensures) (put-whole words (s .args .s .now) (s .args .k) (f .fit .ensures) (s .pre))))  -- returns

@@ -5,21 +5,9 @@ use borrow.Author.Needs.{needs}
 use Rattle.sets.proofs.take_out.Statement.{statement}
 use Rattle.sets.proofs.take_out.Tie as tie
 
-returns : tie.Need-returns
-returns c =
-    let f = c .before .before .before in
-    let s = f .before .before in
-    rw (c .without .ensures, c .before .with .ensures) (out-whole words (s .args .s .now) (s .args .k) (f .fit .ensures .0) (f .fit .ensures .1) (s .pre))
-
 pub take-out-spec : {M : Type 1} → statement M
-take-out-spec =
-    tie.close
-    (tie.spec
-    (λ c κs. search needs)  -- fit-requires
-    (λ c. search needs)  -- mul-without
-    (λ c. search needs)  -- element-copy-out-without
-    (λ c κs. search needs)  -- with-requires
-    (λ c κs. search needs)  -- without-requires
-    (λ c. search needs)  -- mul-s
-    (λ c. search needs)  -- element-write-s
-    returns)
+take-out-spec = tie.close (tie.spec
+    (λ c κs. search needs) (λ c. search needs) (λ c. search needs) (λ c κs. search needs)  -- fit-requires, mul-without, element-copy-out-without, with-requires
+    (λ c κs. search needs) (λ c. search needs) (λ c. search needs)  -- without-requires, mul-s, element-write-s
+    (λ c. let f = c .before .before .before in let s = f .before .before in
+    rw (c .without .ensures, c .before .with .ensures) (out-whole words (s .args .s .now) (s .args .k) (f .fit .ensures) (s .pre))))  -- returns

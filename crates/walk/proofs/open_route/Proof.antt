@@ -1,76 +1,51 @@
 -- `walk::open_route` meets its contract: the walk from the order's first node.
-use mathlib.Core.List.{List}
-use mathlib.Core.Path.{_≡_, ap, _∙_}
+use mathlib.Core.List.{[]}
+use mathlib.Core.Path.{_≡_, refl, sym, ap, _∙_}
 use Prim.Native.Nat.{ℕ}
-use native.Mathlib.Omega.{arith}
-use lib.Count.{ones}
+use lib.ListN.{getD}
 use borrow.Author.Tests.{not-true, not-false}
 use Rattle.flags.specs.Flag.{put}
-use Rattle.flags.proofs.Put.{put-zero-count}
 use Rattle.sets.specs.Whole.{whole, rows}
 use Rattle.sets.proofs.Rows.{row-at}
-use Rattle.walk.proofs.First.{none-asked, one-asked}
-use Rattle.walk.proofs.Sought.{Sought, none-sought, one-sought}
+use Rattle.hope.specs.Hope.{Into}
+use Rattle.walk.proofs.First.{none-shown, one-shown}
 use borrow.Author.Needs.{needs}
 use Rattle.walk.proofs.open_route.Statement.{statement}
 use Rattle.walk.proofs.open_route.Tie as tie
 
-abbrev begun : tie.After-hopeful → tie.After-with
-begun c = c .before .before .before .before .before
+-- where the walk starts
+module _ (c : tie.After-with) where
+  abbrev start : tie.Start
+  start = c .before .before .before .before
 
-abbrev start : tie.After-with → tie.Start
-start c = c .before .before .before .before
+  -- the route has its first node alone
+  alone : whole (c .with .result) ≡ put 0 (start .args .a)
+  alone = c .with .ensures .0 ∙ ap (λ (w : ℕ). put w (start .args .a)) (c .before .none .ensures)
 
--- the route starts with its first node alone
-started : (c : tie.After-with) → whole (c .with .result) ≡ put 0 (start c .args .a)
-started c = c .with .ensures .0 ∙ ap (λ (w : ℕ). put w (start c .args .a)) (c .before .none .ensures)
+  -- and what its rules order is ordered after it
+  ordered : whole (getD (start .args .fits .now) (start .args .a) []) ≡ getD (rows (start .args .fits .now)) (start .args .a) 0
+  ordered = sym (row-at (start .args .fits .now) (start .args .a))
 
-returns : tie.Need-returns
-returns c =
-    let w = begun (c .before) in
-    let s = start w .args in
-    let nothing : (l : List ℕ) → Sought (rows (s .succ .now)) (rows (s .fits .now)) (s .a) (s .b) l → ⊥ =
-    rw (started w, ← (row-at (s .fits .now) (s .a))) at (c .before .hopeful .ensures (not-true _ (c .if1 .taken))) in
-    (omega arith, λ g rules k words. none-asked (rows (s .succ .now)) (rows (s .fits .now)) words (s .a) (s .b) nothing, none-sought (rows (s .succ .now)) (rows (s .fits .now)) (s .a) (s .b) nothing)
+  known : Into (rows (start .args .fits .now)) (start .args .b) (whole (c .before .before .into-set .result))
+  known p e = c .before .before .into-set .ensures p .0 e .1
 
-abbrev hoped : tie.After-trial → tie.After-with
-hoped c = begun (c .before .before .before .before .before .before .before)
-
-returns-2 : tie.Need-returns-2
-returns-2 c =
-    let w = hoped (c .before) in
-    let s = start w .args in
-    let nothing : (l : List ℕ) → Sought (rows (s .succ .now)) (rows (s .fits .now)) (s .a) (s .b) l → ⊥ =
-    rw (started w, ← (row-at (s .fits .now) (s .a))) at (c .before .trial .ensures .0 .none (not-true _ (c .if2 .taken))) in
-    (omega arith, λ g rules k words. none-asked (rows (s .succ .now)) (rows (s .fits .now)) words (s .a) (s .b) nothing, none-sought (rows (s .succ .now)) (rows (s .fits .now)) (s .a) (s .b) nothing)
+abbrev hoped : tie.After-trial-arg → tie.After-with
+hoped c = c .before .before .before .before .before .before .before .before .before .before .before
 
 returns-3 : tie.Need-returns-3
 returns-3 c =
-    let tr = c .before .before in
-    let w = hoped tr in
-    let s = start w .args in
-    let n : ones (whole (w .with .result)) ≡ 1 = ap ones (started w) ∙ put-zero-count (s .a) in
-    let found = rw (n, started w, ← (row-at (s .fits .now) (s .a))) at (tr .trial .ensures .0) in
-    let way = not-false _ (c .before .if2 .left) in (
-      c .size .ensures .1,
-      λ g rules k words. rw (c .size .ensures .0) (one-asked (rows (s .succ .now)) (rows (s .fits .now)) words (s .a) (s .b) way found),
-      rw (c .size .ensures .0) (one-sought (rows (s .succ .now)) (rows (s .fits .now)) (s .a) (s .b) way found),
-    )
+    let el = c .before in
+    let w = hoped (el .before .before) in
+    rw (c .size .ensures .0) (one-shown (alone w) (ordered w) refl (el .before .trial .ensures) (not-false _ (el .if2 .left)))
 
 pub open-route-spec : {M : Type 1} → statement M
-open-route-spec =
-    tie.close
-    (tie.spec
-    (λ c. search needs)  -- mul-after
-    (λ c. search needs)  -- element-copy-out-after
-    (λ c. search needs)  -- cast-nodes
-    (λ c. search needs)  -- array-write-nodes
-    (λ c κs. search needs)  -- into-set-requires
-    (λ c κs. search needs)  -- none-requires
-    (λ c κs. search needs)  -- with-requires
-    (λ c κs. search needs)  -- hopeful-requires
-    returns
-    (λ c κs. search needs)  -- trial-requires
-    returns-2
+open-route-spec = tie.close (tie.spec
+    (λ c. search needs) (λ c. search needs) (λ c. search needs) (λ c. search needs)  -- mul-after, element-copy-out-after, cast-nodes, array-write-nodes
+    (λ c κs. search needs) (λ c κs. search needs) (λ c κs. search needs)  -- into-set-requires, none-requires, with-requires
+    (λ c κs. let w = c .before .before .before .before in (start w .pre .1, start w .pre .2, known w))  -- hopeful-requires
+    (λ c. let h = c .before in let w = h .before .before .before .before .before in
+    none-shown (alone w) (ordered w) (h .hopeful .ensures (not-true _ (c .if1 .taken))))  -- returns
+    (λ c κs. let w = hoped c in ((start w .pre .1, start w .pre .2, known w), search needs))  -- trial-requires
+    (λ c. let w = hoped (c .before .before) in none-shown (alone w) (ordered w) (c .before .trial .ensures .none (not-true _ (c .if2 .taken))))  -- returns-2
     (λ c κs. search needs)  -- size-requires
     returns-3)

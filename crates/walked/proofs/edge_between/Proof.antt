@@ -32,8 +32,9 @@ inside c = omega (arith, c .loop-test .taken, start c .pre .0 .few)
 
 returns : tie.Need-returns Inv-loop μ-loop
 returns c =
-    let n = c .before .before .before .before .before in
-    λ d. (n .loop-test .taken, omega (arith, c .before .before .before .if1 .taken), n .before .loop .inv .1 .here (n .loop-test .taken), omega (arith, c .before .wide2 .ensures .0, c .if2 .taken))
+    let left = c .before .before .before in let n = left .before .before in
+    let lt = n .loop-test .taken in
+    λ d. (lt, omega (arith, left .if1 .taken), n .before .loop .inv .1 .here lt, omega (arith, c .before .wide2 .ensures .0, c .if2 .taken))
 
 loop-less : tie.Need-loop-less Inv-loop μ-loop
 loop-less c =
@@ -43,9 +44,7 @@ loop-less c =
 
 loop-again : tie.Need-loop-again Inv-loop μ-loop
 loop-again c =
-    let j = c .before .before in
-    let n = j .before .before in
-    let l = n .before .loop in
+    let j = c .before .before in let n = j .before .before in let l = n .before .loop in
     let st = start n in
     let lt = n .loop-test .taken in (
       at-up _ _ (st .pre .1) (l .e) (c .wide3 .result) lt (c .wide3 .ensures .0) .1,
@@ -59,14 +58,8 @@ returns-2 c =
     λ d. seeking-end _ (st .args .to .now) _ _ (st .pre .1) _ _ (c .before .loop .e) _ (c .before .loop .inv .1) (omega (arith, c .loop-test .left)) d
 
 pub edge-between-spec : {M : Type 1} → statement M
-edge-between-spec =
-    tie.close
-    (tie.spec
-    Inv-loop
-    μ-loop
-    (λ c. search needs)  -- mul-wide
-    (λ c. search needs)  -- element-copy-out-wide
-    (λ c κs. search needs)  -- wide-requires
+edge-between-spec = tie.close (tie.spec Inv-loop μ-loop
+    (λ c. search needs) (λ c. search needs) (λ c κs. search needs)  -- mul-wide, element-copy-out-wide, wide-requires
     loop-holds
     (λ c. omega (arith, inside c))  -- mul-if1
     (λ c. omega (arith, inside c))  -- element-copy-out-if1

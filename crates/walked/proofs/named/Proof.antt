@@ -25,9 +25,6 @@ start c = c .before .before .before .before
 inside : (c : tie.In-loop Inv-loop μ-loop) → c .before .loop .i + 1 < most-nodes
 inside c = omega (arith, c .loop-test .taken, start c .pre .1 .0 .0)
 
-loop-holds : tie.Need-loop-holds Inv-loop μ-loop
-loop-holds c = (omega arith, c .before .before .pre .1 .1, λ k h. absurd (omega (arith, h)))
-
 edge-between-requires : tie.Need-edge-between-requires Inv-loop μ-loop
 edge-between-requires c κs =
     let n = c .before .before .before .before in
@@ -43,34 +40,22 @@ module _ (c : tie.After-edge-between Inv-loop μ-loop) where
   first = start turn
 
   -- the edge that is found
-  goes : Goes (first .args .from .now) (first .args .to .now) (Remains (first .args .left .now)) (c .edge-between .result) (getD (first .args .nodes .now) (turn .before .loop .i) 0) (getD (first .args .nodes .now) (turn .before .loop .i + 1) 0)
+  goes : Goes (first .args .from .now) (first .args .to .now) (Remains (first .args .left .now)) (c .edge-between .result)
+      (getD (first .args .nodes .now) (turn .before .loop .i) 0) (getD (first .args .nodes .now) (turn .before .loop .i + 1) 0)
   goes =
-      goes-at (first .args .from .now) (first .args .to .now) (first .args .left .now) _ _ _ _ _ (c .before .before .before .wide .ensures .0) (c .before .wide2 .ensures .0) (c .edge-between .ensures)
-      (first .pre .1 .0 .1 (turn .before .loop .i) (turn .loop-test .taken))
-
-cast-out : tie.Need-cast-out Inv-loop μ-loop
-cast-out c = omega (arith, start (turn c) .pre .0 .0 .few, goes c .0)
+      goes-at (first .args .from .now) (first .args .to .now) (first .args .left .now) _ _ _ _ _ (c .before .before .before .wide .ensures .0)
+      (c .before .wide2 .ensures .0) (c .edge-between .ensures) (first .pre .1 .0 .1 (turn .before .loop .i) (turn .loop-test .taken))
 
 loop-again : tie.Need-loop-again Inv-loop μ-loop
 loop-again c =
-    let l = turn c .before .loop in (
-      omega (arith, turn c .loop-test .taken),
-      length-set (l .out) (l .i) _ ∙ l .inv .1,
-      named-more (first c .args .from .now) (first c .args .to .now) (first c .args .left .now) (first c .args .nodes .now) (l .out) (l .i) _ (omega (arith, inside (turn c), l .inv .1)) (l .inv .2) (goes c),
-    )
-
-returns : tie.Need-returns Inv-loop μ-loop
-returns c =
-    let l = c .before .loop in
-    (l .inv .1, λ k h. l .inv .2 k (omega (arith, h, c .loop-test .left)))
+    let l = turn c .before .loop in let s = first c .args in
+    let room : l .i < length (l .out) = omega (arith, inside (turn c), l .inv .1) in
+    let more = named-more (s .from .now) (s .to .now) (s .left .now) (s .nodes .now) (l .out) (l .i) _ room (l .inv .2) (goes c) in
+    (omega (arith, turn c .loop-test .taken), length-set (l .out) (l .i) _ ∙ l .inv .1, more)
 
 pub named-spec : {M : Type 1} → statement M
-named-spec =
-    tie.close
-    (tie.spec
-    Inv-loop
-    μ-loop
-    loop-holds
+named-spec = tie.close (tie.spec Inv-loop μ-loop
+    (λ c. (omega arith, c .before .before .pre .1 .1, λ k h. absurd (omega (arith, h))))  -- loop-holds
     (λ c. omega (arith, inside c))  -- mul-wide
     (λ c. omega (arith, inside c))  -- element-copy-out-wide
     (λ c κs. search needs)  -- wide-requires
@@ -79,10 +64,9 @@ named-spec =
     (λ c. omega (arith, inside (c .before .before)))  -- element-copy-out-wide-2
     (λ c κs. search needs)  -- wide-requires-2
     edge-between-requires
-    cast-out
+    (λ c. omega (arith, start (turn c) .pre .0 .0 .few, goes c .0))  -- cast-out
     (λ c. omega (arith, inside (turn c)))  -- mul-out
     (λ c. omega (arith, inside (turn c)))  -- element-write-out
-    (λ c. search needs)  -- add-i
-    (λ c. search needs)  -- loop-less
+    (λ c. search needs) (λ c. search needs)  -- add-i, loop-less
     loop-again
-    returns)
+    (λ c. let l = c .before .loop in (l .inv .1, λ k h. l .inv .2 k (omega (arith, h, c .loop-test .left)))))  -- returns

@@ -20,13 +20,9 @@ Inv-loop n l nodes set₀ q₀ set q = (q ≤ n) × Gathered (λ (k : ℕ). near
 abbrev μ-loop : tie.MeasureT-loop
 μ-loop n l nodes set₀ q₀ set q = n - q
 
-loop-holds : tie.Need-loop-holds Inv-loop μ-loop
-loop-holds c = (search needs, rw (c .none .ensures) (gathered-none _))
-
 loop-again : tie.Need-loop-again Inv-loop μ-loop
 loop-again c =
-    let m = c .before in
-    let l = m .before .before .before .loop in
+    let m = c .before in let l = m .before .before .before .loop in
     let s = m .before .before .before .before .before .args in
     let F : ℕ → Bool = λ (k : ℕ). nearb (s .l) (labelAt (s .t1) k) in
     let at : F (l .q) ≡ m .near .result = ap (λ (x : Node). nearb (s .l) (x .label)) (getD-any (s .t1) (l .q) _ _ (search needs)) ∙ sym (m .near .ensures) in (
@@ -37,24 +33,11 @@ loop-again c =
           (c .if1 .came),
     )
 
-returns : tie.Need-returns Inv-loop μ-loop
-returns c =
-    let e : c .before .loop .q ≡ c .before .before .before .args .n = omega arith in
-    λ p. rw (← e) (c .before .loop .inv .1 p)
-
 pub beside-spec : {M : Type 1} → statement M
-beside-spec =
-    tie.close
-    (tie.spec
-    Inv-loop
-    μ-loop
+beside-spec = tie.close (tie.spec Inv-loop μ-loop
     (λ c κs. search needs)  -- none-requires
-    loop-holds
-    (λ c. search needs)  -- mul-node
-    (λ c. search needs)  -- array-copy-out-node
-    (λ c κs. search needs)  -- near-requires
-    (λ c κs. search needs)  -- with-requires
-    (λ c. search needs)  -- add-q
-    (λ c. search needs)  -- loop-less
+    (λ c. (search needs, rw (c .none .ensures) (gathered-none _)))  -- loop-holds
+    (λ c. search needs) (λ c. search needs) (λ c κs. search needs) (λ c κs. search needs)  -- mul-node, array-copy-out-node, near-requires, with-requires
+    (λ c. search needs) (λ c. search needs)  -- add-q, loop-less
     loop-again
-    returns)
+    (λ c. let e : c .before .loop .q ≡ c .before .before .before .args .n = omega arith in λ p. rw (← e) (c .before .loop .inv .1 p)))  -- returns

@@ -5,7 +5,7 @@ use mathlib.Core.Path.{_≡_, sym, ap, _∙_}
 use Prim.Native.Nat.{ℕ, _-_, _≤_}
 use native.Mathlib.Omega.{arith}
 use Rattle.graph.specs.declared.Node.{Node}
-use Rattle.graph.specs.Fit.{wantOf}
+use Rattle.graph.specs.Tests.{wantOf}
 use Rattle.graph.proofs.Counted.{getD-any}
 use Rattle.sets.specs.Whole.{whole}
 use Rattle.words.specs.Words.{labelAt}
@@ -21,16 +21,13 @@ Inv-loop n side nodes set₀ q₀ set q = (q ≤ n) × Gathered (λ (k : ℕ). m
 abbrev μ-loop : tie.MeasureT-loop
 μ-loop n side nodes set₀ q₀ set q = n - q
 
-loop-holds : tie.Need-loop-holds Inv-loop μ-loop
-loop-holds c = (search needs, rw (c .none .ensures) (gathered-none _))
-
 loop-again : tie.Need-loop-again Inv-loop μ-loop
 loop-again c =
-    let m = c .before in
-    let l = m .before .before .before .loop in
+    let m = c .before in let l = m .before .before .before .loop in
     let s = m .before .before .before .before .before .args in
     let F : ℕ → Bool = λ (k : ℕ). matchb (wantOf (s .side) (labelAt (s .t1) k)) in
-    let at : F (l .q) ≡ m .matches .result = ap (λ (x : Node). matchb (wantOf (s .side) (x .label))) (getD-any (s .t1) (l .q) _ _ (search needs)) ∙ sym (m .matches .ensures) in (
+    let at : F (l .q) ≡ m .matches .result =
+    ap (λ (x : Node). matchb (wantOf (s .side) (x .label))) (getD-any (s .t1) (l .q) _ _ (search needs)) ∙ sym (m .matches .ensures) in (
       search needs,
       ⊎-elim
           (λ w. rw (w .2, w .1 .ensures .0) (gathered-put F (l .q) (whole (l .set)) (l .inv .1) (at ∙ w .0 .taken)))
@@ -38,24 +35,11 @@ loop-again c =
           (c .if1 .came),
     )
 
-returns : tie.Need-returns Inv-loop μ-loop
-returns c =
-    let e : c .before .loop .q ≡ c .before .before .before .args .n = omega arith in
-    λ p. rw (← e) (c .before .loop .inv .1 p)
-
 pub matched-spec : {M : Type 1} → statement M
-matched-spec =
-    tie.close
-    (tie.spec
-    Inv-loop
-    μ-loop
+matched-spec = tie.close (tie.spec Inv-loop μ-loop
     (λ c κs. search needs)  -- none-requires
-    loop-holds
-    (λ c. search needs)  -- mul-node
-    (λ c. search needs)  -- array-copy-out-node
-    (λ c κs. search needs)  -- matches-requires
-    (λ c κs. search needs)  -- with-requires
-    (λ c. search needs)  -- add-q
-    (λ c. search needs)  -- loop-less
+    (λ c. (search needs, rw (c .none .ensures) (gathered-none _)))  -- loop-holds
+    (λ c. search needs) (λ c. search needs) (λ c κs. search needs) (λ c κs. search needs)  -- mul-node, array-copy-out-node, matches-requires, with-requires
+    (λ c. search needs) (λ c. search needs)  -- add-q, loop-less
     loop-again
-    returns)
+    (λ c. let e : c .before .loop .q ≡ c .before .before .before .args .n = omega arith in λ p. rw (← e) (c .before .loop .inv .1 p)))  -- returns

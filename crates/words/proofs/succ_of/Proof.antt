@@ -4,13 +4,7 @@ use borrow.Author.Needs.{needs}
 use Rattle.words.proofs.succ_of.Statement.{statement}
 use Rattle.words.proofs.succ_of.Tie as tie
 
-succ-words-requires : tie.Need-succ-words-requires
-succ-words-requires c κs =
-    let s = c .before in
-    (search needs, all-ends (s .args .g) (s .pre .0) (s .pre .1))
-
-returns : tie.Need-returns
-returns c = search needs
-
 pub succ-of-spec : {M : Type 1} → statement M
-succ-of-spec = tie.close (tie.spec succ-words-requires returns)
+succ-of-spec = tie.close (tie.spec
+    (λ c κs. let s = c .before in (search needs, all-ends (s .args .g) (s .pre .0) (s .pre .1)))  -- succ-words-requires
+    (λ c. search needs))  -- returns

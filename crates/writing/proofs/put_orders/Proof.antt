@@ -12,49 +12,11 @@ Inv-loop out₀ at n orders p₀ i₀ out p i = Putting order-bytes 6 at n order
 abbrev μ-loop : tie.MeasureT-loop
 μ-loop out₀ at n orders p₀ i₀ out p i = n - i
 
-loop-holds : tie.Need-loop-holds Inv-loop μ-loop
-loop-holds c = putting-none order-bytes 6 _ _ _ _ (search needs)
-
-mul-put-order : tie.Need-mul-put-order Inv-loop μ-loop
-mul-put-order c = search needs
-
-array-copy-out-put-order : tie.Need-array-copy-out-put-order Inv-loop μ-loop
-array-copy-out-put-order c = search needs
-
-put-order-requires : tie.Need-put-order-requires Inv-loop μ-loop
-put-order-requires c κs = search needs
-
-add-i : tie.Need-add-i Inv-loop μ-loop
-add-i c = search needs
-
-loop-less : tie.Need-loop-less Inv-loop μ-loop
-loop-less c = search needs
-
-loop-again : tie.Need-loop-again Inv-loop μ-loop
-loop-again c =
-    let pe = c .before .before in
-    let l = pe .before .before .before .before in
-    let inv = l .loop .inv in
-    putting-more order-bytes 6 _ _ _ _ _ _ _ inv _ _ _ (search needs) (search needs) (pe .put-order .ensures .0) (pe .put-order .ensures .1)
-
-same-length : tie.Need-same-length Inv-loop μ-loop
-same-length c = search needs
-
-returns : tie.Need-returns Inv-loop μ-loop
-returns c = putting-all order-bytes 6 _ _ _ _ _ _ _ (c .before .loop .inv) (search needs)
-
 pub put-orders-spec : {M : Type 1} → statement M
-put-orders-spec =
-    tie.close
-    (tie.spec
-    Inv-loop
-    μ-loop
-    loop-holds
-    mul-put-order
-    array-copy-out-put-order
-    put-order-requires
-    add-i
-    loop-less
-    loop-again
-    same-length
-    returns)
+put-orders-spec = tie.close (tie.spec Inv-loop μ-loop
+    (λ c. putting-none (search needs))  -- loop-holds
+    (λ c. search needs) (λ c. search needs) (λ c κs. search needs) (λ c. search needs)  -- mul-put-order, array-copy-out-put-order, put-order-requires, add-i
+    (λ c. search needs)  -- loop-less
+    (λ c. let b = c .before .before in putting-more (b .before .before .before .before .loop .inv) _ (search needs) (b .put-order .ensures))  -- loop-again
+    (λ c. search needs)  -- same-length
+    (λ c. putting-all (c .before .loop .inv) (search needs)))  -- returns

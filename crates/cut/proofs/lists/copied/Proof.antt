@@ -15,43 +15,9 @@ Inv-loop n edges l₀ e₀ l e = (e ≤ n) × Copied edges (l .from) (l .to) (l 
 abbrev μ-loop : tie.MeasureT-loop
 μ-loop n edges l₀ e₀ l e = n - e
 
-loop-holds : tie.Need-loop-holds Inv-loop μ-loop
-loop-holds c = (omega arith, copied-none _ _ _ _ refl refl refl)
-
-mul-x : tie.Need-mul-x Inv-loop μ-loop
-mul-x c = search needs
-
-array-copy-out-x : tie.Need-array-copy-out-x Inv-loop μ-loop
-array-copy-out-x c = search needs
-
-mul-l : tie.Need-mul-l Inv-loop μ-loop
-mul-l c = search needs
-
-element-write-l : tie.Need-element-write-l Inv-loop μ-loop
-element-write-l c = search needs
-
-mul-l-2 : tie.Need-mul-l-2 Inv-loop μ-loop
-mul-l-2 c = search needs
-
-element-write-l-2 : tie.Need-element-write-l-2 Inv-loop μ-loop
-element-write-l-2 c = search needs
-
-mul-l-3 : tie.Need-mul-l-3 Inv-loop μ-loop
-mul-l-3 c = search needs
-
-element-write-l-3 : tie.Need-element-write-l-3 Inv-loop μ-loop
-element-write-l-3 c = search needs
-
-add-e : tie.Need-add-e Inv-loop μ-loop
-add-e c = search needs
-
-loop-less : tie.Need-loop-less Inv-loop μ-loop
-loop-less c = search needs
-
 loop-again : tie.Need-loop-again Inv-loop μ-loop
 loop-again c =
-    let l = c .before .before in
-    let lt = c .before .loop-test .taken in
+    let l = c .before .before in let lt = c .before .loop-test .taken in
     (omega arith, copied-more _ _ _ _ _ _ _ _ (omega (arith, lt, l .before .pre)) (l .loop .inv .1) refl refl refl)
 
 returns : tie.Need-returns Inv-loop μ-loop
@@ -61,21 +27,10 @@ returns c =
     (search needs, rw z at (l .loop .inv .1))
 
 pub copied-spec : {M : Type 1} → statement M
-copied-spec =
-    tie.close
-    (tie.spec
-    Inv-loop
-    μ-loop
-    loop-holds
-    mul-x
-    array-copy-out-x
-    mul-l
-    element-write-l
-    mul-l-2
-    element-write-l-2
-    mul-l-3
-    element-write-l-3
-    add-e
-    loop-less
+copied-spec = tie.close (tie.spec Inv-loop μ-loop
+    (λ c. (omega arith, copied-none _ _ _ _ refl refl refl))  -- loop-holds
+    (λ c. search needs) (λ c. search needs) (λ c. search needs) (λ c. search needs)  -- mul-x, array-copy-out-x, mul-l, element-write-l
+    (λ c. search needs) (λ c. search needs) (λ c. search needs) (λ c. search needs)  -- mul-l-2, element-write-l-2, mul-l-3, element-write-l-3
+    (λ c. search needs) (λ c. search needs)  -- add-e, loop-less
     loop-again
     returns)

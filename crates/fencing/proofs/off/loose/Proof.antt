@@ -43,9 +43,7 @@ some-end c =
 -- known where the two edges are read
 one-each : (c : tie.After-struct-known2) → OneEach (given (scanned c)) (found (scanned c))
 one-each c =
-    let e5 = c .before .before .before .before in
-    let e4 = e5 .before .before in
-    let more = e4 .before .next-end2 in
+    let e5 = c .before .before .before .before in let e4 = e5 .before .before in let more = e4 .before .next-end2 in
     let g = given (scanned c) in
     let none : more .result ≡ g .«edge_count» = omega (arith, e4 .if4 .left, more .ensures .high) in
     record {
@@ -54,95 +52,20 @@ one-each c =
       starts = subst (FirstFrom (StartsThere g) 0 (g .«edge_count»)) (e5 .if5 .left) (e5 .before .first-start .ensures);
     }
 
-returns : tie.Need-returns
-returns c = none-empty _ (c .before .pre .0) (c .before .pre .1) (c .if1 .taken)
-
-sub-v : tie.Need-sub-v
-sub-v c = search needs
-
-sub-m : tie.Need-sub-m
-sub-m c = search needs
-
-mul-node : tie.Need-mul-node
-mul-node c = search needs
-
-element-copy-out-node : tie.Need-element-copy-out-node
-element-copy-out-node c = search needs
-
-is-fence-requires : tie.Need-is-fence-requires
-is-fence-requires c κs = search needs
-
-returns-2 : tie.Need-returns-2
-returns-2 c = none-fence (some-edge (c .before)) _ (sym (c .before .is-fence .ensures) ∙ not-true _ (c .if2 .taken))
-
-next-end-requires : tie.Need-next-end-requires
-next-end-requires c κs = search needs
-
-returns-3 : tie.Need-returns-3
-returns-3 c = none-end (some-edge (c .before .before .before .before)) (c .before .next-end .ensures) (c .if3 .taken)
-
-add-next-end : tie.Need-add-next-end
-add-next-end c = search needs
-
-next-end-requires-2 : tie.Need-next-end-requires-2
-next-end-requires-2 c κs = search needs
-
-returns-4 : tie.Need-returns-4
-returns-4 c = none-more (some-end (c .before .before)) (c .before .next-end2 .ensures) (c .if4 .taken)
-
-first-start-requires : tie.Need-first-start-requires
-first-start-requires c κs = search needs
-
-returns-5 : tie.Need-returns-5
-returns-5 c = none-start (some-end (c .before .before .before .before) .some-edge) (c .before .first-start .ensures) (c .if5 .taken)
-
-mul-a : tie.Need-mul-a
-mul-a c = search needs
-
-array-copy-out-a : tie.Need-array-copy-out-a
-array-copy-out-a c = search needs
-
-mul-b : tie.Need-mul-b
-mul-b c = search needs
-
-array-copy-out-b : tie.Need-array-copy-out-b
-array-copy-out-b c = search needs
-
-returns-6 : tie.Need-returns-6
-returns-6 c = none-weight (one-each (c .before) .some-end) (c .if6 .taken)
-
-first-pair-requires : tie.Need-first-pair-requires
-first-pair-requires c κs = search needs
-
-returns-7 : tie.Need-returns-7
-returns-7 c = none-new (one-each (c .before .before .before) .some-end) (c .before .first-pair .ensures) (c .if7 .taken)
-
-returns-8 : tie.Need-returns-8
-returns-8 c = loose-there (one-each (c .before .before .before)) (c .before .before .if6 .left) (c .before .first-pair .ensures) (omega (arith, c .if7 .left))
-
 pub loose-spec : {M : Type 1} → statement M
-loose-spec =
-    tie.close
-    (tie.spec
-    returns
-    sub-v
-    sub-m
-    mul-node
-    element-copy-out-node
-    is-fence-requires
-    returns-2
-    next-end-requires
-    returns-3
-    add-next-end
-    next-end-requires-2
-    returns-4
-    first-start-requires
-    returns-5
-    mul-a
-    array-copy-out-a
-    mul-b
-    array-copy-out-b
-    returns-6
-    first-pair-requires
-    returns-7
-    returns-8)
+loose-spec = tie.close (tie.spec
+    (λ c. none-empty _ (c .before .pre .0) (c .before .pre .1) (c .if1 .taken))  -- returns
+    (λ c. search needs) (λ c. search needs) (λ c. search needs) (λ c. search needs)  -- sub-v, sub-m, mul-node, element-copy-out-node
+    (λ c κs. search needs)  -- is-fence-requires
+    (λ c. none-fence (some-edge (c .before)) _ (sym (c .before .is-fence .ensures) ∙ not-true _ (c .if2 .taken)))  -- returns-2
+    (λ c κs. search needs)  -- next-end-requires
+    (λ c. none-end (some-edge (c .before .before .before .before)) (c .before .next-end .ensures) (c .if3 .taken))  -- returns-3
+    (λ c. search needs) (λ c κs. search needs)  -- add-next-end, next-end-requires-2
+    (λ c. none-more (some-end (c .before .before)) (c .before .next-end2 .ensures) (c .if4 .taken))  -- returns-4
+    (λ c κs. search needs)  -- first-start-requires
+    (λ c. none-start (some-end (c .before .before .before .before) .some-edge) (c .before .first-start .ensures) (c .if5 .taken))  -- returns-5
+    (λ c. search needs) (λ c. search needs) (λ c. search needs) (λ c. search needs)  -- mul-a, array-copy-out-a, mul-b, array-copy-out-b
+    (λ c. none-weight (one-each (c .before) .some-end) (c .if6 .taken))  -- returns-6
+    (λ c κs. search needs)  -- first-pair-requires
+    (λ c. none-new (one-each (c .before .before .before) .some-end) (c .before .first-pair .ensures) (c .if7 .taken))  -- returns-7
+    (λ c. loose-there (one-each (c .before .before .before)) (c .before .before .if6 .left) (c .before .first-pair .ensures) (omega arith)))  -- returns-8

@@ -1,13 +1,11 @@
 -- `fencing::on::count` meets its contract: edge by edge.
 use mathlib.Core.Logic.{⊎-elim}
-use mathlib.Core.Bool.{Bool}
-use mathlib.Core.List.{List}
 use native.Mathlib.Omega.{arith}
 use lib.Seq.{drop-length}
 use Rattle.fencing.proofs.Flags.{rising-yes, rising-no}
 use Rattle.graph.specs.Value.{rising}
-use mathlib.Core.Path.{_≡_, ap, _∙_}
-use Prim.Native.Nat.{ℕ, _+_, _-_, _<_, _≤_}
+use mathlib.Core.Path.{_≡_, ap}
+use Prim.Native.Nat.{_+_, _-_, _<_, _≤_}
 use lib.ListN.{length, drop}
 use borrow.Author.Needs.{needs}
 use Rattle.fencing.proofs.on.count.Statement.{statement}
@@ -19,25 +17,9 @@ Inv-loop flags n₀ i₀ n i = (i ≤ 1024) × (n ≤ i) × (n + length (rising 
 abbrev μ-loop : tie.MeasureT-loop
 μ-loop flags n₀ i₀ n i = 1024 - i
 
-loop-holds : tie.Need-loop-holds Inv-loop μ-loop
-loop-holds c = search needs
-
-array-read-if1 : tie.Need-array-read-if1 Inv-loop μ-loop
-array-read-if1 c = search needs
-
-add-n : tie.Need-add-n Inv-loop μ-loop
-add-n c = search needs
-
-add-i : tie.Need-add-i Inv-loop μ-loop
-add-i c = search needs
-
-loop-less : tie.Need-loop-less Inv-loop μ-loop
-loop-less c = search needs
-
 loop-again : tie.Need-loop-again Inv-loop μ-loop
 loop-again c =
-    let flags = c .before .before .before .args .t1 in
-    let i = c .before .before .loop .i in
+    let flags = c .before .before .before .args .t1 in let i = c .before .before .loop .i in
     let inv = c .before .before .loop .inv in
     let long : i < length flags = search needs in
     ⊎-elim
@@ -47,14 +29,13 @@ loop-again c =
 
 returns : tie.Need-returns Inv-loop μ-loop
 returns c =
-    let flags = c .before .before .args .t1 in
-    let i = c .before .loop .i in
-    let inv = c .before .loop .inv in
+    let flags = c .before .before .args .t1 in let i = c .before .loop .i in let inv = c .before .loop .inv in
     let e : i ≡ length flags = search needs in
-    let z : length (rising i (drop i flags)) ≡ 0 = ap (λ (k : ℕ). length (rising k (drop k flags))) e ∙ ap (λ (l : List Bool). length (rising (length flags) l)) (drop-length flags) in
+    let z : length (rising i (drop i flags)) ≡ 0 = rw (e, drop-length) in
     (omega (arith, z), omega arith)
 
 pub count-spec : {M : Type 1} → statement M
-count-spec =
-    tie.close
-    (tie.spec Inv-loop μ-loop loop-holds array-read-if1 add-n add-i loop-less loop-again returns)
+count-spec = tie.close (tie.spec Inv-loop μ-loop
+    (λ c. search needs) (λ c. search needs) (λ c. search needs) (λ c. search needs) (λ c. search needs)  -- loop-holds, array-read-if1, add-n, add-i, loop-less
+    loop-again
+    returns)

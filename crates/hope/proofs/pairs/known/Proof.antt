@@ -1,8 +1,7 @@
 -- `hope::pairs::known` meets its contract: pair by pair.
 use mathlib.Core.Bool.{true≢false}
-use mathlib.Core.Path.{sym, ap, _∙_}
-use Prim.Native.Nat.{ℕ, _-_, _≤_}
-use Rattle.flags.specs.Flag.{flag}
+use mathlib.Core.Path.{sym}
+use Prim.Native.Nat.{_-_, _≤_}
 use Rattle.sets.proofs.Rows.{row-at}
 use borrow.Author.Needs.{needs}
 use Rattle.hope.proofs.pairs.known.Statement.{statement}
@@ -16,30 +15,15 @@ abbrev μ-loop : tie.MeasureT-loop
 
 returns : tie.Need-returns Inv-loop μ-loop
 returns c =
-    let lo = c .before in
-    let th = lo .before .before in
-    let n = th .before .before in
-    let st = n .before .before in
+    let lo = c .before in let th = lo .before .before in let n = th .before .before in
     let j = n .before .loop .j in
-    λ e. (j, n .loop-test .taken, th .if1 .taken, λ k h. lo .lowest .ensures .none (c .if2 .taken) k (ap (λ (x : ℕ). flag x k) (sym (row-at (st .args .kept .now) j)) ∙ h))
-
-returns-2 : tie.Need-returns-2 Inv-loop μ-loop
-returns-2 c = λ e. absurd (true≢false (sym e))
+    let row = row-at (n .before .before .args .kept .now) j in
+    λ e. (j, n .loop-test .taken, th .if1 .taken, λ k h. lo .lowest .ensures .none (c .if2 .taken) k (rw row at h))
 
 pub known-spec : {M : Type 1} → statement M
-known-spec =
-    tie.close
-    (tie.spec
-    Inv-loop
-    μ-loop
-    (λ c. search needs)  -- loop-holds
-    (λ c. search needs)  -- mul-if1
-    (λ c. search needs)  -- element-copy-out-if1
-    (λ c. search needs)  -- mul-lowest
-    (λ c. search needs)  -- element-copy-out-lowest
-    (λ c κs. search needs)  -- lowest-requires
+known-spec = tie.close (tie.spec Inv-loop μ-loop
+    (λ c. search needs) (λ c. search needs) (λ c. search needs) (λ c. search needs)  -- loop-holds, mul-if1, element-copy-out-if1, mul-lowest
+    (λ c. search needs) (λ c κs. search needs)  -- element-copy-out-lowest, lowest-requires
     returns
-    (λ c. search needs)  -- add-j
-    (λ c. search needs)  -- loop-less
-    (λ c. search needs)  -- loop-again
-    returns-2)
+    (λ c. search needs) (λ c. search needs) (λ c. search needs)  -- add-j, loop-less, loop-again
+    (λ c. λ e. absurd (true≢false (sym e))))  -- returns-2

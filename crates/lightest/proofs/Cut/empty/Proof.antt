@@ -7,12 +7,7 @@ use borrow.Author.Needs.{needs}
 use Rattle.lightest.proofs.Cut.empty.Statement.{statement}
 use Rattle.lightest.proofs.Cut.empty.Tie as tie
 
-returns : tie.Need-returns
-returns c = (refl, ap (flagsFrom 0 most-edges) (c .none .ensures) ∙ flags-none 0 most-edges)
-
 pub empty-spec : {M : Type 1} → statement M
-empty-spec =
-    tie.close
-    (tie.spec
+empty-spec = tie.close (tie.spec
     (λ c κs. search needs)  -- none-requires
-    returns)
+    (λ c. (refl, ap (flagsFrom 0 most-edges) (c .none .ensures) ∙ flags-none 0 most-edges)))  -- returns

@@ -20,13 +20,9 @@ Inv-loop chosen flags₀ e₀ flags e = (e ≤ most-edges) × (length flags ≡ 
 abbrev μ-loop : tie.MeasureT-loop
 μ-loop chosen flags₀ e₀ flags e = most-edges - e
 
-loop-holds : tie.Need-loop-holds Inv-loop μ-loop
-loop-holds c = (search needs, refl, λ j h. absurd (omega (arith, h)))
-
 loop-again : tie.Need-loop-again Inv-loop μ-loop
 loop-again c =
-    let n = c .before .before in
-    let l = n .before .loop in
+    let n = c .before .before in let l = n .before .loop in
     let w = n .before .before .before .args .self .chosen in (
       search needs,
       length-set (l .flags) (l .e) (c .has .result) ∙ l .inv .1,
@@ -35,21 +31,10 @@ loop-again c =
           (getD-set-same (l .flags) (l .e) (c .has .result) false (omega (arith, l .inv .1, n .loop-test .taken)) ∙ c .has .ensures),
     )
 
-returns : tie.Need-returns Inv-loop μ-loop
-returns c =
-    let l = c .before .loop in
-    flags-same most-edges _ (l .flags) (l .inv .1) (λ j h. l .inv .2 j (omega (arith, h, c .loop-test .left)))
-
 pub flags-spec : {M : Type 1} → statement M
-flags-spec =
-    tie.close
-    (tie.spec
-    Inv-loop
-    μ-loop
-    loop-holds
-    (λ c κs. search needs)  -- has-requires
-    (λ c. search needs)  -- array-write-flags
-    (λ c. search needs)  -- add-e
-    (λ c. search needs)  -- loop-less
+flags-spec = tie.close (tie.spec Inv-loop μ-loop
+    (λ c. (search needs, refl, λ j h. absurd (omega (arith, h))))  -- loop-holds
+    (λ c κs. search needs) (λ c. search needs) (λ c. search needs) (λ c. search needs)  -- has-requires, array-write-flags, add-e, loop-less
     loop-again
-    returns)
+    (λ c. let l = c .before .loop in
+    flags-same most-edges _ (l .flags) (l .inv .1) (λ j h. l .inv .2 j (omega (arith, h, c .loop-test .left)))))  -- returns

@@ -9,14 +9,10 @@ use Rattle.lightest.proofs.Cut.with_edge.Tie as tie
 
 returns : tie.Need-returns
 returns c =
-    let p = c .before in
-    let st = p .before .before .before in
+    let p = c .before in let st = p .before .before .before in
     (ap (flagsFrom 0 most-edges) (p .put-in .ensures) ∙ flags-set most-edges _ (st .args .e) (st .pre .0), refl)
 
 pub with-edge-spec : {M : Type 1} → statement M
-with-edge-spec =
-    tie.close
-    (tie.spec
-    (λ c κs. search needs)  -- put-in-requires
-    (λ c. search needs)  -- add-t8
+with-edge-spec = tie.close (tie.spec
+    (λ c κs. search needs) (λ c. search needs)  -- put-in-requires, add-t8
     returns)

@@ -1,25 +1,25 @@
 -- `lightest::search::least` meets its contract: by the bound, or edge by edge of a route. The allowance falls.
 -- Assumes nothing.
-use mathlib.Core.Bool.{true, false, Bool, true≢false}
+use mathlib.Core.Bool.{true, Bool}
 use mathlib.Core.List.{List}
 use mathlib.Core.Logic.{⊎-elim}
-use mathlib.Core.Path.{_≡_, refl, sym, ap, subst, subst⁻¹, _∙_}
-use Prim.Native.Nat.{_-_, _≤_, ℕ, _<_, _+_}
+use mathlib.Core.Path.{_≡_, refl, sym, _∙_}
+use Prim.Native.Nat.{_+_, _-_, _≤_, ℕ, _<_}
 use native.Mathlib.Nat.{pos-of-ne-zero}
 use native.Mathlib.Omega.{arith}
-use lib.ListN.{length, getD, set}
+use lib.ListN.{length, set}
 use borrow.Author.Needs.{needs}
 use borrow.Fn.Kinds.{In}
 use borrow.Fn.PlainCycle.{Measures, is, falls, and}
 use Rattle.sets.specs.Whole.{whole, rows}
 use Rattle.graph.specs.Limits.{most-edges}
-use Rattle.graph.proofs.Splits.{true-false}
-use Rattle.lightest.specs.declared.Pick as Weighed
 use Rattle.lightest.specs.Apart.{Apart}
-use Rattle.lightest.specs.Made.{Cut, Made, cutAt, cutOf, edgesOf, pickOf}
-use Rattle.lightest.specs.Search.{Levelled, Picked}
-use Rattle.lightest.proofs.Grown.{grown, made-by}
-use Rattle.lightest.proofs.Tried.{Tried, Deeper, lighter-first, pick-all, pick-leaf, pick-low, pick-tight, tried-heavy, tried-hit, tried-light, tried-miss, tried-none, tried-skip, tried-up}
+use Rattle.lightest.specs.Made.{Cut, Made, cutAt, cutOf, edgesOf, most-weight}
+use Rattle.lightest.specs.declared.Cut as Value
+use Rattle.lightest.specs.Search.{Addable, Levelled, Picked}
+use Rattle.lightest.proofs.Diff.{negative, not-negative}
+use Rattle.lightest.proofs.Grown.{grown, made-by, made-more}
+use Rattle.lightest.proofs.Tried.{Deeper, Tried, deeper-low, pick-all, pick-leaf, pick-tight, tried-heavy, tried-hit, tried-none, tried-same, tried-skip, capped-none}
 use Rattle.lightest.proofs.search.+least.{statement}
 use Rattle.lightest.proofs.search.+least.Tie.{close}
 use Rattle.lightest.proofs.search.least.Reads as least
@@ -30,7 +30,7 @@ use Rattle.sets.proofs.wide.has.Reads as has-reads
 use Rattle.lightest.proofs.pack.wider.Reads as wider-reads
 use Rattle.lightest.proofs.Cut.of.Reads as of-reads
 use Rattle.lightest.proofs.Cut.with_edge.Reads as with-edge-reads
-use Rattle.lightest.proofs.Pick.lighter.Reads as lighter-reads
+use Rattle.lightest.proofs.heavier_by.Reads as heavier-by-reads
 
 abbrev μ-least : Measures 11 least-kinds.ps ℕ
 μ-least κs a = a .1 .1 .1 .1 .1 .1 .1 .1 .1 .1 .0
@@ -42,13 +42,30 @@ abbrev least-below : ℕ → In 11 least-kinds.ps
 least-below t = and 11 least-kinds.ps (falls 11 least-kinds.ps _<_ μ-least t) least.Pre
 
 abbrev least-Inv-loop : least-lts.InvT-loop
-least-Inv-loop from to ins on fits ws us vs chosen weight allowance kept₀ best₀ found₀ b sum n rest₀ e₀ kept best found rest e = (e ≤ n) × Tried ws (Apart from to (rows fits) us vs) (cutAt chosen weight) allowance (whole (b .route)) (pickOf found best) rest e × (found .found ≡ false → best ≡ best₀)
+least-Inv-loop from to ins on fits ws us vs chosen weight allowance kept₀ best₀ found₀ b sum n e₀ kept best found e =
+    (e ≤ n) × Tried ws (Apart from to (rows fits) us vs) (cutAt chosen weight) (weight + allowance) (whole (b .route)) (cutAt best found) e
+    × (found ≡ weight + allowance → best ≡ best₀)
 
 abbrev least-μ-loop : least-lts.MeasureT-loop
-least-μ-loop from to ins on fits ws us vs chosen weight allowance kept₀ best₀ found₀ b sum n rest₀ e₀ kept best found rest e = n - e
+least-μ-loop from to ins on fits ws us vs chosen weight allowance kept₀ best₀ found₀ b sum n e₀ kept best found e = n - e
 
 abbrev calls : ℕ → least-lts.Claims
-calls t = (level-of-reads.Asked, level-of-reads.Learnt, has-reads.Asked, has-reads.Learnt, wider-reads.Asked, wider-reads.Learnt, of-reads.Asked, of-reads.Learnt, with-edge-reads.Asked, with-edge-reads.Learnt, least-below t, least.Post, lighter-reads.Asked, lighter-reads.Learnt)
+calls t = (
+  level-of-reads.Asked,
+  level-of-reads.Learnt,
+  has-reads.Asked,
+  has-reads.Learnt,
+  wider-reads.Asked,
+  wider-reads.Learnt,
+  of-reads.Asked,
+  of-reads.Learnt,
+  with-edge-reads.Asked,
+  with-edge-reads.Learnt,
+  least-below t,
+  least.Post,
+  heavier-by-reads.Asked,
+  heavier-by-reads.Learnt,
+)
 
 module _ (t : ℕ) where
   -- what is known once there is a bound
@@ -66,12 +83,16 @@ module _ (t : ℕ) where
     abbrev so-far : Cut
     so-far = cutAt (start .args .chosen .now) (start .args .weight)
 
+    -- where the allowance ends
+    abbrev limit : ℕ
+    limit = start .args .weight + start .args .allowance
+
     abbrev made : Made ws so-far
     made = start .pre .1 .1 .0
 
     -- what the level knows of it
     levelled : Levelled ws P so-far (whole (b .level-of .result .route)) (b .level-of .result .len) (b .level-of .result .sum)
-    levelled = subst (λ (v : ℕ). Levelled ws P (cutAt (start .args .chosen .now) v) (whole (b .level-of .result .route)) (b .level-of .result .len) (b .level-of .result .sum)) (made .sum) (b .level-of .ensures)
+    levelled = rw (made .sum) at (b .level-of .ensures)
 
     few : length ws ≤ most-edges
     few = omega (arith, start .pre .1 .0 .net .few, start .pre .1 .0 .weights)
@@ -87,16 +108,32 @@ module _ (t : ℕ) where
     abbrev level : least-lts.After-level-of (calls t) (least-at t) least.Post least-Inv-loop least-μ-loop
     level = turn .before .before .before
 
-    -- what the edges before tell, of the best and the rest given
-    abbrev Tries : Weighed.Pick → List ℕ → ℕ → ℕ → Type 0
-    Tries found best rest e = Tried (ws level) (P level) (so-far level) (start level .args .allowance) (whole (level .level-of .result .route)) (pickOf found best) rest e
+    -- what the edges before tell, of the best given
+    abbrev Tries : List ℕ → ℕ → ℕ → Type 0
+    Tries best found e = Tried (ws level) (P level) (so-far level) (limit level) (whole (level .level-of .result .route)) (cutAt best found) e
 
-    abbrev tried : Tries (turn .loop .found) (turn .loop .best) (turn .loop .rest) (turn .loop .e)
+    abbrev tried : Tries (turn .loop .best) (turn .loop .found) (turn .loop .e)
     tried = turn .loop .inv .1
 
+    -- the best so far weighs no more than is allowed
+    low : turn .loop .found < most-weight
+    low = omega (arith, tried .capped .low, start level .pre .1 .1 .1)
+
     -- an edge to go on with
-    known : h .has .result ≡ true → (turn .loop .e < length (ws level)) × (1 ≤ getD (ws level) (turn .loop .e) 0) × (getD (so-far level .chosen) (turn .loop .e) false ≡ false)
+    known : h .has .result ≡ true → Addable (ws level) (so-far level .chosen) (turn .loop .e)
     known f = levelled level .edge (pos-of-ne-zero (turn .before .if2 .left)) (turn .loop .e) (sym (h .has .ensures) ∙ f)
+
+    -- what is found a level deeper: c
+    abbrev Finds : Cut → Type 0
+    Finds c = Deeper (ws level) (P level) (so-far level) (turn .loop .e) (turn .loop .found) c
+
+    small : {c : Cut} → Finds c → c .weight < most-weight
+    small d = omega (arith, low, deeper-low d)
+
+    finds : {c : Cut} → h .has .result ≡ true → (n : Value.Cut) (w : ℕ) → so-far level .weight + w < turn .loop .found
+        → (edgesOf (n .chosen) ≡ set (so-far level .chosen) (turn .loop .e) true) × (n .weight ≡ so-far level .weight + w)
+        → Picked (ws level) (P level) (cutOf n) (n .weight + (turn .loop .found - n .weight)) c → Finds c
+    finds f n w lt m p = record { edge = known f; cut = cutOf n; more = m .0; light = omega (arith, lt, m .1); picked = p }
 
   -- what is known of the larger cut
   module _ (g : least-lts.After-with-edge (calls t) (least-at t) least.Post least-Inv-loop least-μ-loop) where
@@ -106,168 +143,91 @@ module _ (t : ℕ) where
     abbrev edge-of : least-lts.After-has (calls t) (least-at t) least.Post least-Inv-loop least-μ-loop
     edge-of = weighed .before .before .before
 
-    one-more : edgesOf (g .with-edge .result .chosen) ≡ set (so-far (level edge-of) .chosen) (turn edge-of .loop .e) true
-    one-more = g .with-edge .ensures .0 ∙ ap (λ (x : List ℕ). set (edgesOf x) (turn edge-of .loop .e) true) (g .before .of .ensures .1)
-
-    heavier : g .with-edge .result .weight ≡ so-far (level edge-of) .weight + weighed .wider .result
-    heavier = g .with-edge .ensures .1 ∙ ap (λ (x : ℕ). x + weighed .wider .result) (g .before .of .ensures .0)
+    larger : (edgesOf (g .with-edge .result .chosen) ≡ set (so-far (level edge-of) .chosen) (turn edge-of .loop .e) true)
+        × (g .with-edge .result .weight ≡ so-far (level edge-of) .weight + weighed .wider .result)
+    larger = made-more _ _ _ _ (g .before .of .ensures) (g .with-edge .ensures)
 
   -- what is known a level deeper
   module _ (r : least-lts.After-least (calls t) (least-at t) least.Post least-Inv-loop least-μ-loop) where
-    abbrev larger : least-lts.After-with-edge (calls t) (least-at t) least.Post least-Inv-loop least-μ-loop
-    larger = r .before .before .before .before .before
+    abbrev grew : least-lts.After-with-edge (calls t) (least-at t) least.Post least-Inv-loop least-μ-loop
+    grew = r .before .before .before .before .before
 
     abbrev hit : least-lts.After-has (calls t) (least-at t) least.Post least-Inv-loop least-μ-loop
-    hit = edge-of larger
+    hit = edge-of grew
 
-    -- the edges written by then
-    abbrev written : List ℕ
-    written = r .least .last .1 .1 .1 .1 .1 .1 .1 .1 .1 .1 .1 .1 .0
-
-    deeper : Deeper (ws (level hit)) (P (level hit)) (so-far (level hit)) (start (level hit) .args .allowance) (whole (level hit .level-of .result .route)) (pickOf (turn hit .loop .found) (turn hit .loop .best)) (turn hit .loop .rest) (turn hit .loop .e) (weighed larger .wider .result) (cutOf (larger .with-edge .result)) (pickOf (r .least .result) written)
-    deeper = let k = known hit (weighed larger .before .before .if3 .taken) in record {
-      few = few (level hit);
-      made = made (level hit);
-      tried = tried hit;
-      edge = k .0;
-      some = k .1;
-      out = k .2;
-      room = larger .before .before .if4 .taken;
-      chosen = one-more larger;
-      sum = heavier larger;
-      picked = r .least .ensures .0;
-    }
-
-  -- the lighter of two is the one just found
-  module _ (z : least-lts.After-lighter (calls t) (least-at t) least.Post least-Inv-loop least-μ-loop) where
-    abbrev found-at : least-lts.After-least (calls t) (least-at t) least.Post least-Inv-loop least-μ-loop
-    found-at = z .before .before
-
-    won : z .lighter .result ≡ found-at .least .result
-    won = lighter-first _ _ _ (z .before .if5 .taken) (tried-light (deeper found-at) (z .before .if5 .taken)) (z .lighter .ensures)
-
-    heft : z .lighter .result .weight ≡ found-at .least .result .weight
-    heft = ap (λ (x : Weighed.Pick). x .weight) won
-
-    up : start (level (hit found-at)) .args .weight + 1 ≤ z .lighter .result .weight
-    up = omega (arith, heft, tried-up (deeper found-at) (z .before .if5 .taken))
-
-    found : z .lighter .result .found ≡ true
-    found = ap (λ (x : Weighed.Pick). x .found) won ∙ z .before .if5 .taken
-
-    better : Tries (hit found-at) (z .lighter .result) (written found-at) (z .lighter .result .weight - start (level (hit found-at)) .args .weight - 1) (turn (hit found-at) .loop .e + 1)
-    better = subst⁻¹ (λ (x : Weighed.Pick). Tries (hit found-at) x (written found-at) (x .weight - start (level (hit found-at)) .args .weight - 1) (turn (hit found-at) .loop .e + 1)) won
-        (tried-hit (deeper found-at) (z .before .if5 .taken) _ (omega (arith, tried-up (deeper found-at) (z .before .if5 .taken))))
+    there : Finds hit (cutAt (r .least .last .1 .1 .1 .1 .1 .1 .1 .1 .1 .1 .1 .1 .0) (r .least .result))
+    there = finds hit (weighed grew .before .before .if3 .taken) _ _ (grew .before .before .if4 .taken) (larger grew) (r .least .ensures .0)
 
   -- an edge more, in each of the four ways
-  on : (c : least-lts.Joined3 (calls t) (least-at t) least.Post least-Inv-loop least-μ-loop) → Tries (c .before) (c .if3 .found) (c .if3 .best) (c .if3 .rest) (turn (c .before) .loop .e + 1) × (c .if3 .found .found ≡ false → c .if3 .best ≡ start (level (c .before)) .args .best .now)
-  on c = let h = c .before in
-      let l = turn h .loop in
+  on : (c : least-lts.Joined3 (calls t) (least-at t) least.Post least-Inv-loop least-μ-loop)
+      → Tries (c .before) (c .if3 .best) (c .if3 .found) (turn (c .before) .loop .e + 1)
+      × (c .if3 .found ≡ limit (level (c .before)) → c .if3 .best ≡ start (level (c .before)) .args .best .now)
+  on c =
+      let h = c .before in
+      let so = tried h in
+      let n = few (level h) in
+      let m = made (level h) in
+      let kept = turn h .loop .inv .2 in
       ⊎-elim (λ a.
-      let z : least-lts.After-lighter (calls t) (least-at t) least.Post least-Inv-loop least-μ-loop = record { before = record { before = record { before = record { before = record { before = record { before = record { before = record { before = record { before = record { before = record { before = record { before = record { before = h; if3 = a .0 }; shared-slice-known6 = a .1 }; wider = a .2 }; if4 = a .3 }; of = a .4 }; with-edge = a .5 }; next = a .6 }; t = a .7 }; least-arg = a .8 }; least-arg2 = a .9 }; least = a .10 }; if5 = a .11 }; lighter = a .12 } in
-      rw (a .16, a .17, a .18) (better z, λ e. absurd (true-false (found z) e)))
+      let d = finds h (a .0 .taken) _ _ (a .3 .taken) (made-more _ _ _ _ (a .4 .ensures) (a .5 .ensures)) (a .10 .ensures .0) in
+      let lt = negative _ _ (small h d) (low h) _ (a .11 .ensures) (a .12 .taken) in
+      rw (a .15, a .16) (tried-hit so n m d lt, λ e. absurd (omega (arith, e, lt, so .capped .low))))
       (⊎-elim (λ a.
-      let r : least-lts.After-least (calls t) (least-at t) least.Post least-Inv-loop least-μ-loop = record { before = record { before = record { before = record { before = record { before = record { before = record { before = record { before = record { before = record { before = record { before = h; if3 = a .0 }; shared-slice-known6 = a .1 }; wider = a .2 }; if4 = a .3 }; of = a .4 }; with-edge = a .5 }; next = a .6 }; t = a .7 }; least-arg = a .8 }; least-arg2 = a .9 }; least = a .10 } in
-      rw (a .13 ∙ a .10 .ensures .1 (a .11 .left), a .14, a .15) (tried-miss (deeper r) (a .11 .left), l .inv .2))
-      (⊎-elim (λ a. let k = known h (a .0 .taken) in rw (a .5, a .6, a .7) (tried-heavy _ _ (few (level h)) _ (made (level h)) _ _ _ _ _ (tried h) (k .0) (k .1) (k .2) (omega (arith, a .3 .left, a .2 .ensures .0)), l .inv .2))
-      (λ a. rw (a .2, a .3, a .4) (tried-skip _ _ (few (level h)) _ (made (level h)) _ _ _ _ _ (tried h) (sym (h .has .ensures) ∙ a .0 .left), l .inv .2))))
+      let d = finds h (a .0 .taken) _ _ (a .3 .taken) (made-more _ _ _ _ (a .4 .ensures) (a .5 .ensures)) (a .10 .ensures .0) in
+      let ge = not-negative _ _ (small h d) (low h) _ (a .11 .ensures) (a .12 .left) in
+      rw (a .14 ∙ a .10 .ensures .1 (omega (arith, d .light, ge, deeper-low d)), a .15) (tried-same so n m d ge, kept))
+      (⊎-elim (λ a. rw (a .5, a .6) (tried-heavy so n m (known h (a .0 .taken)) (omega (arith, a .3 .left, a .2 .ensures .0)), kept))
+      (λ a. rw (a .2, a .3) (tried-skip so (sym (h .has .ensures) ∙ a .0 .left), kept))))
       (c .if3 .came)
 
-  least-level-of-requires : least-lts.Need-level-of-requires (calls t) (least-at t) least.Post least-Inv-loop least-μ-loop
-  least-level-of-requires c κs = let q = c .before .before .before .before .before .before .pre .1 in (q .0, (made-by _ _ _ (q .1 .0), omega (arith, q .1 .1)))
-
-  least-returns : least-lts.Need-returns (calls t) (least-at t) least.Post least-Inv-loop least-μ-loop
-  least-returns c = let b = c .before in (pick-low _ _ (few b) _ (made b) _ _ (levelled b .packed .0) _ (levelled b .packed .1) (c .if1 .taken), λ e. refl)
-
-  least-returns-2 : least-lts.Need-returns-2 (calls t) (least-at t) least.Post least-Inv-loop least-μ-loop
-  least-returns-2 c = let b = c .before .before .before in (pick-leaf _ _ (few b) _ (made b) _ (levelled b .none (c .before .if2 .taken)), λ e. absurd (true≢false e))
-
-  least-loop-holds : least-lts.Need-loop-holds (calls t) (least-at t) least.Post least-Inv-loop least-μ-loop
-  least-loop-holds c = let b = c .before .before in (omega arith, tried-none _ _ (few b) _ (made b) _ _ _, λ e. refl)
-
-  least-has-requires : least-lts.Need-has-requires (calls t) (least-at t) least.Post least-Inv-loop least-μ-loop
-  least-has-requires c κs = let n = c .before .before in omega (arith, n .loop-test .taken, few (n .before .before .before .before))
-
-  least-mul-wider : least-lts.Need-mul-wider (calls t) (least-at t) least.Post least-Inv-loop least-μ-loop
-  least-mul-wider c = let h = c .before in record { fits = omega (arith, round h .loop-test .taken, few (level h)) }
-
-  least-shared-slice-read-wider : least-lts.Need-shared-slice-read-wider (calls t) (least-at t) least.Post least-Inv-loop least-μ-loop
-  least-shared-slice-read-wider c = round (c .before .before) .loop-test .taken
-
-  least-with-edge-requires : least-lts.Need-with-edge-requires (calls t) (least-at t) least.Post least-Inv-loop least-μ-loop
-  least-with-edge-requires c κs = let d = c .before in
-      let h = d .before .before .before .before in
-      (omega (arith, round h .loop-test .taken, few (level h)), omega (arith, c .of .ensures .0, d .if4 .taken, tried h .low, start (level h) .pre .1 .1 .1))
-
   least-least-requires : least-lts.Need-least-requires (calls t) (least-at t) least.Post least-Inv-loop least-μ-loop
-  least-least-requires c κs = let g = c .before .before .before .before in
-      let d = g .before .before in
-      let h = edge-of g in
-      let w = weighed g in
-      let st = start (level h) in
-      let k = known h (w .before .before .if3 .taken) in (
-        omega (arith, d .if4 .taken, tried h .low, st .pre .0, k .1, w .wider .ensures .0),
-        (
-          st .pre .1 .0,
-          (
-            grown _ (few (level h)) _ (made (level h)) _ (k .0) (k .1) (k .2) _ _ (w .wider .ensures .0) (omega (arith, d .if4 .taken, tried h .low, st .pre .1 .1 .1)) (one-more g) (heavier g),
-            omega (arith, heavier g, d .if4 .taken, tried h .low, st .pre .1 .1 .1),
-          ),
-        ),
-      )
-
-  least-lighter-requires : least-lts.Need-lighter-requires (calls t) (least-at t) least.Post least-Inv-loop least-μ-loop
-  least-lighter-requires c κs = let r = c .before in (r .least .ensures .0 .small, tried (hit r) .small)
-
-  least-sub-spent : least-lts.Need-sub-spent (calls t) (least-at t) least.Post least-Inv-loop least-μ-loop
-  least-sub-spent c = omega (arith, up (c .before))
+  least-least-requires c κs =
+      let g = c .before .before .before .before in let h = edge-of g in let q = start (level h) .pre in
+      let lt = g .before .before .if4 .taken in
+      let cap = tried h .capped .low in
+      let w = weighed g .wider .ensures .0 in
+      let k = known h (weighed g .before .before .if3 .taken) in
+      let more = larger g in
+      let bigger = grown _ (few (level h)) _ (made (level h)) _ k (cutOf (g .with-edge .result)) _ w (omega (arith, low h)) (more .0) (more .1) in
+      (omega arith, (q .1 .0, (bigger, omega arith)))
 
   least-returns-3 : least-lts.Need-returns-3 (calls t) (least-at t) least.Post least-Inv-loop least-μ-loop
-  least-returns-3 c = let z = c .before .before in
-      let b = level (hit (found-at z)) in (
-        subst⁻¹ (λ (x : Weighed.Pick). Picked (ws b) (P b) (so-far b) (start b .args .allowance) (pickOf x (written (found-at z)))) (won z)
-            (pick-tight (deeper (found-at z)) (z .before .if5 .taken) (levelled b .packed .0) _ (levelled b .packed .1) (omega (arith, c .if6 .taken, up z, heft z))),
-        λ e. absurd (true-false (found z) e),
-      )
-
-  least-sub-rest : least-lts.Need-sub-rest (calls t) (least-at t) least.Post least-Inv-loop least-μ-loop
-  least-sub-rest c = omega (arith, up (c .before .before))
-
-  least-add-e : least-lts.Need-add-e (calls t) (least-at t) least.Post least-Inv-loop least-μ-loop
-  least-add-e c = let h = c .before in record { fits = omega (arith, round h .loop-test .taken, few (level h)) }
-
-  least-loop-less : least-lts.Need-loop-less (calls t) (least-at t) least.Post least-Inv-loop least-μ-loop
-  least-loop-less c = omega (arith, round (c .before) .loop-test .taken)
-
-  least-loop-again : least-lts.Need-loop-again (calls t) (least-at t) least.Post least-Inv-loop least-μ-loop
-  least-loop-again c = let h = c .before in
-      let s = on c in
-      (omega (arith, round h .loop-test .taken), s .0, s .1)
+  least-returns-3 c =
+      let r = c .before .before .before in let h = hit r in let b = level h in let p = levelled b .packed in
+      let lt = negative _ _ (small h (there r)) (low h) _ (c .before .before .heavier-by .ensures) (c .before .if5 .taken) in
+      let best = tried-hit (tried h) (few b) (made b) (there r) lt .capped in
+      (pick-tight (p .0) _ best (p .1) (omega (arith, c .if6 .taken)), λ e. absurd (omega (arith, e, lt, tried h .capped .low)))
 
   least-returns-4 : least-lts.Need-returns-4 (calls t) (least-at t) least.Post least-Inv-loop least-μ-loop
   least-returns-4 c = let l = c .before in
       let b = l .before .before .before in
       let some = pos-of-ne-zero (l .before .if2 .left) in
-      (pick-all _ _ (few b) _ (made b) _ (whole (b .level-of .result .route)) _ _ (l .loop .e) (λ e f. omega (arith, levelled b .edge some e f .0, c .loop-test .left)) (levelled b .must some) (l .loop .inv .1), l .loop .inv .2)
+      (pick-all (λ e f. omega (arith, levelled b .edge some e f .0, c .loop-test .left)) (levelled b .must some) (l .loop .inv .1), l .loop .inv .2)
 
 pub +least-spec : {M : Type 1} → statement M
 +least-spec = close μ-least λ t. least-lts.spec (calls t) (least-at t) least.Post least-Inv-loop least-μ-loop
-    (least-level-of-requires t)
-    (least-returns t)
-    (least-returns-2 t)
-    (least-loop-holds t)
-    (least-has-requires t)
-    (least-mul-wider t)
-    (least-shared-slice-read-wider t)
+    (λ c. record { fits = omega (arith, c .before .before .before .before .before .pre .1 .1 .1) })  -- least-add-found
+    (λ c κs. let q = c .before .before .before .before .before .before .pre .1 in
+    (q .0, (made-by _ _ _ (q .1 .0), omega (arith, q .1 .1))))  -- least-level-of-requires
+    (λ c. let p = levelled t (c .before) .packed in (pick-tight (p .0) _ (capped-none refl) (p .1) (omega (arith, c .if1 .taken)), λ e. refl))  -- least-returns
+    (λ c. let two = c .before in let b = two .before .before in
+    (pick-leaf (made t b) (levelled t b .none (two .if2 .taken)) (omega arith), λ e. absurd (omega (arith, e, two .before .if1 .left))))  -- least-returns-2
+    (λ c. (omega arith, tried-none refl, λ e. refl))  -- least-loop-holds
+    (λ c κs. let n = c .before .before in omega (arith, n .loop-test .taken, few t (n .before .before .before .before)))  -- least-has-requires
+    (λ c. let h = c .before in record { fits = omega (arith, round t h .loop-test .taken, few t (level t h)) })  -- least-mul-wider
+    (λ c. round t (c .before .before) .loop-test .taken)  -- least-shared-slice-read-wider
     (λ c κs. search needs)  -- least-wider-requires
+    (λ c. let h = c .before .before .before in record { fits = omega (arith, c .wider .ensures .1, start t (level t h) .pre .1 .1 .1) })  -- least-add-if4
     (λ c κs. search needs)  -- least-of-requires
-    (least-with-edge-requires t)
+    (λ c κs. let d = c .before in let h = d .before .before .before .before in
+    (omega (arith, round t h .loop-test .taken, few t (level t h)), omega (arith, c .of .ensures .0, d .if4 .taken, low t h)))  -- least-with-edge-requires
+    (λ c. let g = c .before .before in omega (arith, larger t g .1, g .before .before .if4 .taken, tried t (edge-of t g) .capped .low))  -- least-sub-more
     (least-least-requires t)
-    (least-lighter-requires t)
-    (least-sub-spent t)
+    (λ c κs. (small t (hit t c) (there t c), low t (hit t c)))  -- least-heavier-by-requires
+    (λ c. let l = turn t (hit t (c .before .before)) .before .before in
+    record { fits = omega (arith, l .if1 .left, start t (l .before) .pre .1 .1 .1) })  -- least-add-if6
     (least-returns-3 t)
-    (least-sub-rest t)
-    (least-add-e t)
-    (least-loop-less t)
-    (least-loop-again t)
+    (λ c. let h = c .before in record { fits = omega (arith, round t h .loop-test .taken, few t (level t h)) })  -- least-add-e
+    (λ c. omega (arith, round t (c .before) .loop-test .taken))  -- least-loop-less
+    (λ c. (omega (arith, round t (c .before) .loop-test .taken), on t c .0, on t c .1))  -- least-loop-again
     (least-returns-4 t)

@@ -1,10 +1,10 @@
--- `lightest::search::best` meets its contract: a lightest cut, then its list, edge by edge.
+-- `lightest::search::best` meets its contract: some cut, a lightest one, then its list, edge by edge.
 -- Assumes nothing.
 use mathlib.Core.Bool.{Bool, true, false}
 use mathlib.Core.List.{List}
 use mathlib.Core.Logic.{⊎-elim}
-use mathlib.Core.Path.{_≡_, sym, subst, _∙_}
-use Prim.Native.Nat.{ℕ, _+_, _-_, _≤_, _<_}
+use mathlib.Core.Path.{_≡_, refl, sym, ap₂, _∙_}
+use Prim.Native.Nat.{ℕ, _+_, _*_, _-_, _≤_, _<_}
 use native.Mathlib.Omega.{arith}
 use lib.ListN.{length, getD}
 use borrow.Author.Needs.{needs}
@@ -13,25 +13,28 @@ use Rattle.lightest.specs.Apart.{Apart}
 use Rattle.lightest.specs.Made.{Cut, Made, cutAt, cutOf, edgesOf}
 use Rattle.graph.specs.Limits.{most-edges}
 use Rattle.lightest.proofs.Flags.{flags-at}
-use Rattle.lightest.proofs.Grown.{made-by, made-none}
-use Rattle.lightest.proofs.Listed.{Kept, kept-start, kept-light, kept-gap, kept-skip, kept-room, kept-grown, kept-take, kept-found, kept-all, barren-heavy, barren-slack, barren-none, found-weight}
-use Rattle.lightest.proofs.Whole.{found}
+use Rattle.lightest.proofs.Grown.{made-by, made-most, made-none}
+use Rattle.lightest.proofs.Listed.{Listed, listed-start, listed-light, listed-gap, listed-skip, listed-room, listed-grown, listed-take, listed-found, listed-all, barren-heavy, barren-slack, barren-none}
 use Rattle.lightest.proofs.search.best.Statement.{statement}
 use Rattle.lightest.proofs.search.best.Tie as tie
 
 abbrev Inv-loop : tie.InvT-loop
-Inv-loop from to ins on fits ws us vs kept₀ k₀ c₀ h m weight b n e₀ kept k c e = (e ≤ n) × Kept ws (Apart from to (rows fits) us vs) (cutAt c weight) (cutOf k) e
+Inv-loop from to ins on fits ws us vs kept₀ k₀ m b c₀ m' weight n e₀ kept k c e =
+    (e ≤ n) × Listed ws (Apart from to (rows fits) us vs) (cutAt c weight) (cutOf k) e
 
 abbrev μ-loop : tie.MeasureT-loop
-μ-loop from to ins on fits ws us vs kept₀ k₀ c₀ h m weight b n e₀ kept k c e = n - e
+μ-loop from to ins on fits ws us vs kept₀ k₀ m b c₀ m' weight n e₀ kept k c e = n - e
 
--- what is known once there is a lightest cut and a bound
-module _ (b : tie.After-bound Inv-loop μ-loop) where
-  abbrev lightest : tie.After-least Inv-loop μ-loop
-  lightest = b .before .before .before
+-- what is known once there are a packing, some cut and a lightest one
+module _ (l : tie.After-least Inv-loop μ-loop) where
+  abbrev first : tie.After-first-cut Inv-loop μ-loop
+  first = l .before .before .before .before .before
+
+  abbrev packing : tie.After-bound Inv-loop μ-loop
+  packing = first .before .before .before .before
 
   abbrev none : tie.After-empty Inv-loop μ-loop
-  none = lightest .before .before .before .before .before .before
+  none = packing .before .before .before .before
 
   abbrev start : tie.Start Inv-loop μ-loop
   start = none .before .before .before .before .before .before
@@ -43,17 +46,20 @@ module _ (b : tie.After-bound Inv-loop μ-loop) where
   P = Apart (start .args .from .now) (start .args .to .now) (rows (start .args .fits .now)) (start .args .us .now) (start .args .vs .now)
 
   abbrev weight : ℕ
-  weight = lightest .least .result .weight
+  weight = l .least .result
 
   few : length ws ≤ most-edges
   few = omega (arith, start .pre .net .few, start .pre .weights)
 
-  empty : Made ws (cutOf (none .empty .result))
-  empty = made-none _ _ (none .empty .ensures .0) (none .empty .ensures .1)
+  kept-first : Listed ws P (cutAt (l .least .last .1 .1 .1 .1 .1 .1 .1 .1 .1 .1 .1 .1 .0) weight) (cutOf (none .empty .result)) 0
+  kept-first =
+      let e = none .empty .ensures in let found = first .first-cut .ensures in
+      listed-start few (e .1) (made-none _ _ e) (e .1) (found .0) (found .1) (l .least .ensures .0)
+      (λ q. ap₂ (λ (x : List ℕ) (v : ℕ). cutAt x v) (sym (l .least .ensures .1 q)) (omega (arith, q)))
 
-  kept-first : Kept ws P (cutAt (lightest .least .last .1 .1 .1 .1 .1 .1 .1 .1 .1 .1 .1 .1 .0) weight) (cutOf (none .empty .result)) 0
-  kept-first = kept-start _ _ few _ _ _ _ (none .empty .ensures .1) empty (none .empty .ensures .1) (lightest .least .ensures .0)
-      (found _ _ _ _ _ _ _ _ (start .pre) _ _ _ (λ e. omega (arith, none .before .before .before .shared-slice-known3 .given e)) (none .empty .ensures .1) (omega arith) (lightest .least .ensures .0))
+  -- no cut weighs more than all edges can
+  light-all : (c : List ℕ) → Made ws (cutAt c weight) → weight ≤ most-edges * 65535
+  light-all c m = made-most _ _ m (λ e. omega (arith, none .before .before .before .shared-slice-known3 .given e))
 
 -- what is known in a turn of the loop
 module _ (n : tie.In-loop Inv-loop μ-loop) where
@@ -61,7 +67,7 @@ module _ (n : tie.In-loop Inv-loop μ-loop) where
   turn = n .before
 
   abbrev keeps : List ℕ → Cut → ℕ → Type 0
-  keeps chosen k e = Kept (ws (turn .before)) (P (turn .before)) (cutAt chosen (weight (turn .before))) k e
+  keeps chosen k e = Listed (ws (turn .before)) (P (turn .before)) (cutAt chosen (weight (turn .before))) k e
 
   abbrev kept : keeps (turn .loop .c) (cutOf (turn .loop .k)) (turn .loop .e)
   kept = turn .loop .inv .1
@@ -72,8 +78,11 @@ module _ (n : tie.In-loop Inv-loop μ-loop) where
   heavy : 1 ≤ getD (ws (turn .before)) (turn .loop .e) 0
   heavy = start (turn .before) .pre .some _ (n .loop-test .taken)
 
+  abbrev light-all-now : weight (turn .before) ≤ most-edges * 65535
+  light-all-now = light-all (turn .before) _ (kept .made)
+
   light : turn .loop .k .weight ≤ weight (turn .before)
-  light = kept-light _ _ (few (turn .before)) _ _ _ kept
+  light = listed-light (few (turn .before)) kept
 
 -- what is known of the edge of a turn
 module _ (h : tie.After-has Inv-loop μ-loop) where
@@ -87,123 +96,76 @@ module _ (h : tie.After-has Inv-loop μ-loop) where
   same = flags-at most-edges _ (turn round .loop .e) (below round) ∙ sym (h .has .ensures)
 
   room : h .has .result ≡ true → turn round .loop .k .weight + weighed .wider .result ≤ weight (turn round .before)
-  room t = omega (arith, weighed .wider .ensures .0, kept-room _ _ (few (turn round .before)) _ _ _ (kept round) (round .loop-test .taken) (heavy round) (same ∙ t))
+  room t = omega (arith, weighed .wider .ensures .0, listed-room (few (turn round .before)) (kept round) (round .loop-test .taken) (heavy round) (same ∙ t))
 
-least-requires : tie.Need-least-requires Inv-loop μ-loop
-least-requires c κs =
-    let e = c .before .before .before .before .before in
-    (e .before .before .before .before .before .before .pre, (made-none _ _ (e .empty .ensures .0) (e .empty .ensures .1), omega (arith, e .empty .ensures .0)))
+-- what is known of the larger cut
+module _ (g : tie.After-with-edge2 Inv-loop μ-loop) where
+  abbrev roomy : tie.Then2 Inv-loop μ-loop
+  roomy = g .before .before .before .before
 
-bound-requires : tie.Need-bound-requires Inv-loop μ-loop
-bound-requires c κs =
-    let l = c .before .before in
-    let e = l .before .before .before .before .before .before in
-    (e .before .before .before .before .before .before .pre, (made-by _ _ _ (made-none _ _ (e .empty .ensures .0) (e .empty .ensures .1)), omega (arith, l .least .ensures .0 .small)))
+  abbrev at-edge : tie.After-has Inv-loop μ-loop
+  at-edge = roomy .before .before .before
 
-loop-holds : tie.Need-loop-holds Inv-loop μ-loop
-loop-holds c = (omega arith, kept-first c)
-
-mul-wider : tie.Need-mul-wider Inv-loop μ-loop
-mul-wider c = record { fits = omega (arith, below c) }
-
-has-requires : tie.Need-has-requires Inv-loop μ-loop
-has-requires c κs = below (c .before .before .before)
-
-with-edge-requires : tie.Need-with-edge-requires Inv-loop μ-loop
-with-edge-requires c κs =
-    let h = c .before in
-    (below (round h), omega (arith, room h (c .if1 .taken), kept (round h) .made .small))
-
-sub-rest : tie.Need-sub-rest Inv-loop μ-loop
-sub-rest c = light (round (c .before .before))
-
-mul-wider-2 : tie.Need-mul-wider-2 Inv-loop μ-loop
-mul-wider-2 c = record { fits = omega (arith, below (round (c .before .before .before))) }
-
-element-copy-out-wider : tie.Need-element-copy-out-wider Inv-loop μ-loop
-element-copy-out-wider c = below (round (c .before .before .before))
-
--- the bound is none too high
-gap : (b : tie.After-bound Inv-loop μ-loop) → b .bound .result .sum ≤ weight b
-gap b = kept-gap _ _ (few b) _ _ _ (kept-first b) _ (b .bound .result .left) _ (none b .empty .ensures .1) (b .bound .ensures .packed)
-
-sub-if3 : tie.Need-sub-if3 Inv-loop μ-loop
-sub-if3 c = omega (arith, gap (turn (round (c .before .before .before .before .before)) .before))
-
-with-edge-requires-2 : tie.Need-with-edge-requires-2 Inv-loop μ-loop
-with-edge-requires-2 c κs =
-    let two = c .before .before .before in
-    let n = round (two .before .before .before) in
-    (below n, omega (arith, two .if2 .taken, kept n .made .small, light n))
+  fits : turn (round at-edge) .loop .k .weight + weighed at-edge .wider .result ≤ weight (turn (round at-edge) .before)
+  fits = roomy .if2 .taken
 
 least-requires-2 : tie.Need-least-requires-2 Inv-loop μ-loop
 least-requires-2 c κs =
-    let two = c .before .before .before .before .before .before .before .before in
-    let h = two .before .before .before in
+    let g = c .before .before .before .before in
+    let h = at-edge g in
     let n = round h in
-    let fits : turn n .loop .k .weight + weighed h .wider .result ≤ weight (turn n .before) = omega (arith, two .if2 .taken, light n) in
-    let longer = c .before .before .before .before .with-edge2 .ensures in (
-      start (turn n .before) .pre,
-      (kept-grown _ _ (few (turn n .before)) _ _ _ (kept n) (n .loop-test .taken) (heavy n) _ (weighed h .wider .ensures .0) _ (longer .0) (longer .1) fits, omega (arith, longer .1, fits, kept n .made .small)),
-    )
+    let more = g .with-edge2 .ensures in
+    let bigger = listed-grown (few (turn n .before)) (kept n) (n .loop-test .taken) (heavy n) (weighed h .wider .ensures .0) more (fits g) in
+    (start (turn n .before) .pre, (bigger, omega (arith, more .1, fits g, light-all-now n)))
 
-add-e : tie.Need-add-e Inv-loop μ-loop
-add-e c = record { fits = omega (arith, below (round (c .before))) }
-
-loop-less : tie.Need-loop-less Inv-loop μ-loop
-loop-less c = omega (arith, round (c .before) .loop-test .taken)
-
-loop-again : tie.Need-loop-again Inv-loop μ-loop
-loop-again c =
+-- an edge more, in each of the five ways
+on : (c : tie.Joined1 Inv-loop μ-loop) → let n = round (c .before) in keeps n (c .if1 .c) (cutOf (c .if1 .k)) (turn n .loop .e + 1)
+on c =
     let h = c .before in
     let n = round h in
     let b = turn n .before in
     let lt = n .loop-test .taken in
     let w = weighed h .wider .ensures .0 in
-    let x = weighed h .wider .result in
-    let k = turn n .loop .k .weight in
-    let rest = weight b - k in
-    let low : x ≤ rest → k + x ≤ weight b = λ q. omega (arith, q, light n) in
-    let even : x ≤ rest → k + x + (rest - x) ≡ weight b = λ q. omega (arith, q, light n) in
-    ⊎-elim (λ z. rw (z .3, z .4) (omega arith, kept-take _ _ (few b) _ _ _ (kept n) lt (heavy n) _ w _ (z .1 .ensures .0) (z .1 .ensures .1) (room h (z .0 .taken)) (same h ∙ z .0 .taken)))
-    (⊎-elim (λ z. rw (z .14, z .15) (
-      omega arith,
-      subst (λ (v : ℕ). Kept (ws b) (P b) (cutAt (z .11 .last .1 .1 .1 .1 .1 .1 .1 .1 .1 .1 .1 .1 .0) v) (cutOf (z .6 .result)) (turn n .loop .e + 1))
-          (found-weight _ _ (few b) _ _ _ (kept n) lt (heavy n) x w _ (z .6 .ensures .0) (z .6 .ensures .1) (low (z .2 .taken)) (rest - x) (even (z .2 .taken)) _ (z .11 .ensures .0) (z .12 .taken))
-          (kept-found _ _ (few b) _ _ _ (kept n) lt (heavy n) x w _ (z .6 .ensures .0) (z .6 .ensures .1) (low (z .2 .taken)) (rest - x) (even (z .2 .taken)) _ (z .11 .ensures .0) (z .12 .taken)),
-    ))
-    (⊎-elim (λ z. rw (z .14, z .15 ∙ z .11 .ensures .1 (z .12 .left)) (omega arith, kept-skip _ _ (few b) _ _ _ (kept n) (same h ∙ z .0 .left) (barren-none _ _ (few b) _ _ _ (kept n) lt (heavy n) x w _ (z .6 .ensures .0) (z .6 .ensures .1) (low (z .2 .taken)) (rest - x) (even (z .2 .taken)) _ (z .11 .ensures .0) (z .12 .left))))
-    (⊎-elim (λ z. rw (z .7, z .8) (omega arith, kept-skip _ _ (few b) _ _ _ (kept n) (same h ∙ z .0 .left) (barren-slack _ _ (few b) _ _ _ (kept n) lt (heavy n) _ (b .bound .result .left) _ (none b .empty .ensures .1) (b .bound .ensures .packed) (omega (arith, z .5 .left, z .4 .ensures .0)))))
-    (λ z. rw (z .4, z .5) (omega arith, kept-skip _ _ (few b) _ _ _ (kept n) (same h ∙ z .0 .left) (barren-heavy _ _ (few b) _ _ _ (kept n) lt (heavy n) (omega (arith, z .2 .left, w))))))))
+    let skip = listed-skip (few b) (kept n) in
+    let pack = packing b .bound in
+    ⊎-elim (λ z. rw (z .3, z .4) (listed-take (few b) (kept n) lt (heavy n) w (z .1 .ensures) (room h (z .0 .taken)) (same h ∙ z .0 .taken)))
+    (⊎-elim (λ z. rw (z .14, z .15) (listed-found (few b) (kept n) lt (heavy n) w (z .6 .ensures) (z .2 .taken) (z .11 .ensures .0) (z .12 .taken)))
+    (⊎-elim (λ z.
+    let none = barren-none (few b) (kept n) lt (heavy n) w (z .6 .ensures) (z .2 .taken) (z .11 .ensures .0) (omega (arith, z .12 .left)) in
+    let stays = z .11 .ensures .1 (omega (arith, z .6 .ensures .1, z .2 .taken, z .11 .ensures .0 .capped .low, z .12 .left)) in
+    rw (z .14, z .15 ∙ stays) (skip (same h ∙ z .0 .left) none))
+    (⊎-elim (λ z.
+    let slack = barren-slack (few b) (kept n) lt (heavy n) _ (pack .result .left) _ (none b .empty .ensures .1) (pack .ensures .packed) in
+    rw (z .7, z .8) (skip (same h ∙ z .0 .left) (slack (omega (arith, z .5 .left, z .4 .ensures .0)))))
+    (λ z. rw (z .4, z .5) (skip (same h ∙ z .0 .left) (barren-heavy (few b) (kept n) lt (heavy n) (omega (arith, z .2 .left, w))))))))
     (c .if1 .came)
 
-returns : tie.Need-returns Inv-loop μ-loop
-returns c = let l = c .before in (l .loop .inv .1 .made, kept-all _ _ (few (l .before)) _ _ _ (l .loop .inv .1) (c .loop-test .left))
-
 pub best-spec : {M : Type 1} → statement M
-best-spec =
-    tie.close
-    (tie.spec
-    Inv-loop
-    μ-loop
+best-spec = tie.close (tie.spec Inv-loop μ-loop
     (λ c κs. search needs)  -- empty-requires
-    (λ c κs. search needs)  -- none-requires
-    least-requires
-    bound-requires
-    loop-holds
-    mul-wider
-    (λ c. search needs)  -- shared-slice-read-wider
-    (λ c κs. search needs)  -- wider-requires
-    has-requires
-    with-edge-requires
-    sub-rest
-    mul-wider-2
-    element-copy-out-wider
+    (λ c κs. let e = c .before .before .before in
+    (e .before .before .before .before .before .before .pre, (made-by _ _ _ (made-none _ _ (e .empty .ensures)), omega arith)))  -- bound-requires
+    (λ c κs. search needs)  -- first-cut-requires
+    (λ c κs. let f = c .before .before .before .before in let e = f .before .before .before .before .before .before .before .before in
+    let st = e .before .before .before .before .before .before in
+    (st .pre, (made-none _ _ (refl, e .empty .ensures .1), omega (arith, f .first-cut .ensures .0 .small))))  -- least-requires
+    (λ c. (omega arith, kept-first c))  -- loop-holds
+    (λ c. record { fits = omega (arith, below c) })  -- mul-wider
+    (λ c. search needs) (λ c κs. search needs)  -- shared-slice-read-wider, wider-requires
+    (λ c κs. below (c .before .before .before))  -- has-requires
+    (λ c κs. let h = c .before in (below (round h), omega (arith, room h (c .if1 .taken), kept (round h) .made .small)))  -- with-edge-requires
+    (λ c. let h = c .before .before in record { fits = omega (arith, light (round h), kept (round h) .made .small, weighed h .wider .ensures .1) })  -- add-if2
+    (λ c. record { fits = omega (arith, below (round (c .before .before .before))) })  -- mul-wider-2
+    (λ c. below (round (c .before .before .before)))  -- element-copy-out-wider
     (λ c κs. search needs)  -- wider-requires-2
-    sub-if3
-    with-edge-requires-2
+    (λ c. let l = turn (round (c .before .before .before .before .before)) .before in let p = packing l .bound in
+    omega (arith, listed-gap (few l) (kept-first l) _ (p .result .left) _ (none l .empty .ensures .1) (p .ensures .packed)))  -- sub-if3
+    (λ c κs. let two = c .before .before .before in let n = round (two .before .before .before) in
+    (below n, omega (arith, two .if2 .taken, kept n .made .small)))  -- with-edge-requires-2
+    (λ c. record { fits = omega (arith, light-all-now (round (at-edge (c .before .before)))) })  -- add-m
+    (λ c. let g = c .before .before in omega (arith, fits g, g .with-edge2 .ensures .1))  -- sub-m
     least-requires-2
-    add-e
-    loop-less
-    loop-again
-    returns)
+    (λ c. record { fits = omega (arith, below (round (c .before))) })  -- add-e
+    (λ c. omega (arith, round (c .before) .loop-test .taken))  -- loop-less
+    (λ c. (omega (arith, round (c .before) .loop-test .taken), on c))  -- loop-again
+    (λ c. let l = c .before in (l .loop .inv .1 .made, listed-all (few (l .before)) (l .loop .inv .1) (c .loop-test .left))))  -- returns

@@ -15,24 +15,10 @@ Inv-loop edges n set₀ i₀ set i = (i ≤ n) × Marks (record { edges = edges;
 abbrev μ-loop : tie.MeasureT-loop
 μ-loop edges n set₀ i₀ set i = n - i
 
-loop-holds : tie.Need-loop-holds Inv-loop μ-loop
-loop-holds c = (omega arith, marks-none _ _ (c .none .ensures))
-
-edge-at-requires : tie.Need-edge-at-requires Inv-loop μ-loop
-edge-at-requires c κs = let n = c .before .before in (n .loop-test .taken, n .before .before .before .before .pre)
-
-put-in-requires : tie.Need-put-in-requires Inv-loop μ-loop
-put-in-requires c κs = c .edge-at .ensures .1
-
-add-i : tie.Need-add-i Inv-loop μ-loop
-add-i c = let n = c .before .before .before .before in record { fits = omega (arith, n .loop-test .taken, n .before .before .before .before .pre .short) }
-
 loop-again : tie.Need-loop-again Inv-loop μ-loop
 loop-again c =
-    let e = c .before in
-    let n = e .before .before .before in
-    let l = n .before .loop in
-    (omega (arith, n .loop-test .taken), marks-more (n .before .before .before .before .args .route) (l .i) (whole (l .set)) _ (e .edge-at .result) (l .inv .1) (e .edge-at .ensures .0) (c .put-in .ensures))
+    let e = c .before in let n = e .before .before .before in
+    (omega (arith, n .loop-test .taken), marks-more (n .before .loop .inv .1) (e .edge-at .ensures .0) (c .put-in .ensures))
 
 returns : tie.Need-returns Inv-loop μ-loop
 returns c =
@@ -41,16 +27,13 @@ returns c =
     rw z at (l .inv .1)
 
 pub edges-of-spec : {M : Type 1} → statement M
-edges-of-spec =
-    tie.close
-    (tie.spec
-    Inv-loop
-    μ-loop
+edges-of-spec = tie.close (tie.spec Inv-loop μ-loop
     (λ c κs. search needs)  -- none-requires
-    loop-holds
-    edge-at-requires
-    put-in-requires
-    add-i
+    (λ c. (omega arith, marks-none _ _ (c .none .ensures)))  -- loop-holds
+    (λ c κs. let n = c .before .before in (n .loop-test .taken, n .before .before .before .before .pre))  -- edge-at-requires
+    (λ c κs. c .edge-at .ensures .1)  -- put-in-requires
+    (λ c. let n = c .before .before .before .before in
+    record { fits = omega (arith, n .loop-test .taken, n .before .before .before .before .pre .short) })  -- add-i
     (λ c. search needs)  -- loop-less
     loop-again
     returns)

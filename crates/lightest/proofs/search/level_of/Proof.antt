@@ -4,13 +4,7 @@ use borrow.Author.Needs.{needs}
 use Rattle.lightest.proofs.search.level_of.Statement.{statement}
 use Rattle.lightest.proofs.search.level_of.Tie as tie
 
-returns : tie.Need-returns
-returns c = levelled _ _ _ (c .before .bound .result) _ (c .before .bound .ensures) (c .edges-of .ensures)
-
 pub level-of-spec : {M : Type 1} → statement M
-level-of-spec =
-    tie.close
-    (tie.spec
-    (λ c κs. search needs)  -- bound-requires
-    (λ c κs. search needs)  -- edges-of-requires
-    returns)
+level-of-spec = tie.close (tie.spec
+    (λ c κs. search needs) (λ c κs. search needs)  -- bound-requires, edges-of-requires
+    (λ c. levelled _ _ _ (c .before .bound .result) _ (c .before .bound .ensures) (c .edges-of .ensures)))  -- returns

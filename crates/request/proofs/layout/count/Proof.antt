@@ -2,67 +2,19 @@
 -- Assumes nothing.
 use native.Mathlib.Omega.{arith}
 use borrow.Author.Needs.{needs}
-use Rattle.request.proofs.Recorded.{counted}
+use Rattle.request.proofs.Laid.{counts-are}
 use Rattle.request.proofs.layout.count.Statement.{statement}
 use Rattle.request.proofs.layout.count.Tie as tie
 
-run-of-requires : tie.Need-run-of-requires
-run-of-requires c κs = search needs
-
-mul-run-of : tie.Need-mul-run-of
-mul-run-of c = search needs
-
-run-of-requires-2 : tie.Need-run-of-requires-2
-run-of-requires-2 c κs = search needs
-
-mul-run-of-2 : tie.Need-mul-run-of-2
-mul-run-of-2 c = search needs
-
-mul-run-of-3 : tie.Need-mul-run-of-3
-mul-run-of-3 c = search needs
-
-add-run-of : tie.Need-add-run-of
-add-run-of c = search needs
-
-run-of-requires-3 : tie.Need-run-of-requires-3
-run-of-requires-3 c κs = search needs
-
-mul-run-of-4 : tie.Need-mul-run-of-4
-mul-run-of-4 c = search needs
-
-mul-run-of-5 : tie.Need-mul-run-of-5
-mul-run-of-5 c = search needs
-
-add-run-of-2 : tie.Need-add-run-of-2
-add-run-of-2 c = search needs
-
-mul-run-of-6 : tie.Need-mul-run-of-6
-mul-run-of-6 c = search needs
-
-add-run-of-3 : tie.Need-add-run-of-3
-add-run-of-3 c = search needs
-
-run-of-requires-4 : tie.Need-run-of-requires-4
-run-of-requires-4 c κs = search needs
-
 returns : tie.Need-returns
-returns c = (counted _ _ _ _ _ (c .before .before .before .run-of .ensures .0) (c .before .before .run-of2 .ensures .0) (c .before .run-of3 .ensures .0) (c .run-of4 .ensures .0), omega arith)
+returns c =
+    let r = c .before in let e = r .before in
+    (counts-are _ _ (c .in-row4 .ensures .0, (r .in-row3 .ensures .0, (e .in-row2 .ensures .0, (e .before .in-row .ensures .0, tt)))), omega arith)
 
 pub count-spec : {M : Type 1} → statement M
-count-spec =
-    tie.close
-    (tie.spec
-    run-of-requires
-    mul-run-of
-    run-of-requires-2
-    mul-run-of-2
-    mul-run-of-3
-    add-run-of
-    run-of-requires-3
-    mul-run-of-4
-    mul-run-of-5
-    add-run-of-2
-    mul-run-of-6
-    add-run-of-3
-    run-of-requires-4
+count-spec = tie.close (tie.spec
+    (λ c κs. search needs) (λ c. search needs) (λ c κs. search needs) (λ c. search needs)  -- in-row-requires, mul-in-row, in-row-requires-2, mul-in-row-2
+    (λ c. search needs) (λ c. search needs) (λ c κs. search needs) (λ c. search needs)  -- mul-in-row-3, add-in-row, in-row-requires-3, mul-in-row-4
+    (λ c. search needs) (λ c. search needs) (λ c. search needs) (λ c. search needs)  -- mul-in-row-5, add-in-row-2, mul-in-row-6, add-in-row-3
+    (λ c κs. search needs)  -- in-row-requires-4
     returns)

@@ -1,78 +1,30 @@
 -- `request::values::orders` meets its contract.
 -- Assumes nothing.
-use Prim.Native.Nat.{_+_, _-_, _*_}
+use Prim.Native.Nat.{_-_}
 use native.Mathlib.Omega.{arith}
 use Rattle.graph.specs.Limits.{most-orders}
 use borrow.Author.Needs.{needs}
-use Rattle.request.specs.Decode.{orderAt}
-use Rattle.request.proofs.Filled.{Filled, filled-none, filled-more, filled-all, order-value}
+use Rattle.request.specs.declared.Mark.the-variants.{Or}
+use Rattle.request.specs.Decode.{readAt}
+use Rattle.request.proofs.Stored.{Stored, stored-none, stored-more, stored-all}
 use Rattle.request.proofs.values.orders.Statement.{statement}
 use Rattle.request.proofs.values.orders.Tie as tie
 
 abbrev Inv-loop : tie.InvT-loop
-Inv-loop file start n found₀ i₀ found i = Filled orderAt 6 file start n most-orders found i
+Inv-loop file start n found₀ i₀ found i = Stored (readAt Or) 6 file start n most-orders found i
 
 abbrev μ-loop : tie.MeasureT-loop
 μ-loop file start n found₀ i₀ found i = n - i
 
-loop-holds : tie.Need-loop-holds Inv-loop μ-loop
-loop-holds c = filled-none orderAt 6 _ _ _ most-orders _ (search needs) (search needs)
-
-mul-at : tie.Need-mul-at Inv-loop μ-loop
-mul-at c = search needs
-
-add-at : tie.Need-add-at Inv-loop μ-loop
-add-at c = search needs
-
-add-short-at : tie.Need-add-short-at Inv-loop μ-loop
-add-short-at c = search needs
-
-short-at-requires : tie.Need-short-at-requires Inv-loop μ-loop
-short-at-requires c κs = search needs
-
-add-short-at-2 : tie.Need-add-short-at-2 Inv-loop μ-loop
-add-short-at-2 c = search needs
-
-short-at-requires-2 : tie.Need-short-at-requires-2 Inv-loop μ-loop
-short-at-requires-2 c κs = search needs
-
-mul-found : tie.Need-mul-found Inv-loop μ-loop
-mul-found c = search needs
-
-array-set-from-found : tie.Need-array-set-from-found Inv-loop μ-loop
-array-set-from-found c = search needs
-
-add-i : tie.Need-add-i Inv-loop μ-loop
-add-i c = search needs
-
-loop-less : tie.Need-loop-less Inv-loop μ-loop
-loop-less c = search needs
-
 loop-again : tie.Need-loop-again Inv-loop μ-loop
 loop-again c =
-    let l = c .before .before .before in
-    let s = l .before .before in
-    filled-more orderAt 6 _ _ _ most-orders _ _ _ (omega arith) (order-value (s .args .file .now) (s .args .start + l .loop .i * 6) _ _ (c .before .short-at .ensures) (c .short-at2 .ensures)) (l .loop .inv)
-
-returns : tie.Need-returns Inv-loop μ-loop
-returns c = filled-all orderAt 6 _ _ _ most-orders _ _ (omega arith) (c .before .loop .inv)
+    stored-more (omega arith) (λ j. record { first = c .before .short-at .ensures j; second = c .short-at2 .ensures j }) (c .before .before .before .loop .inv)
 
 pub orders-spec : {M : Type 1} → statement M
-orders-spec =
-    tie.close
-    (tie.spec
-    Inv-loop
-    μ-loop
-    loop-holds
-    mul-at
-    add-at
-    add-short-at
-    short-at-requires
-    add-short-at-2
-    short-at-requires-2
-    mul-found
-    array-set-from-found
-    add-i
-    loop-less
+orders-spec = tie.close (tie.spec Inv-loop μ-loop
+    (λ c. stored-none (search needs) (search needs))  -- loop-holds
+    (λ c. search needs) (λ c. search needs) (λ c. search needs) (λ c κs. search needs)  -- mul-at, add-at, add-short-at, short-at-requires
+    (λ c. search needs) (λ c κs. search needs) (λ c. search needs) (λ c. search needs)  -- add-short-at-2, short-at-requires-2, mul-found, array-set-from-found
+    (λ c. search needs) (λ c. search needs)  -- add-i, loop-less
     loop-again
-    returns)
+    (λ c. stored-all (omega arith) (c .before .loop .inv)))  -- returns

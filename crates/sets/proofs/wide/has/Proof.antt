@@ -5,18 +5,7 @@ use borrow.Author.Needs.{needs}
 use Rattle.sets.proofs.wide.has.Statement.{statement}
 use Rattle.sets.proofs.wide.has.Tie as tie
 
-returns : tie.Need-returns
-returns c =
-    let f = c .before .before in
-    let s = f .before .before in
-    c .has .ensures ∙ sym (whole-at (s .args .s .now) (s .args .k) (f .fit .ensures .1))
-
 pub has-spec : {M : Type 1} → statement M
-has-spec =
-    tie.close
-    (tie.spec
-    (λ c κs. search needs)  -- fit-requires
-    (λ c. search needs)  -- mul-has
-    (λ c. search needs)  -- element-copy-out-has
-    (λ c κs. search needs)  -- has-requires
-    returns)
+has-spec = tie.close (tie.spec
+    (λ c κs. search needs) (λ c. search needs) (λ c. search needs) (λ c κs. search needs)  -- fit-requires, mul-has, element-copy-out-has, has-requires
+    (λ c. let f = c .before .before in let s = f .before .before .args in c .has .ensures ∙ sym (whole-at (s .s .now) (s .k) (f .fit .ensures .1))))  -- returns

@@ -55,57 +55,44 @@ module _ (c : tie.After-wide3 Inv-loop μ-loop) where
   node : c .wide3 .result < most-nodes
   node = omega (arith, c .wide3 .ensures .0, begun read .pre .0 .0 .head (read .wide .result) (known read))
 
-shared-slice-read-wide-2 : tie.Need-shared-slice-read-wide-2 Inv-loop μ-loop
-shared-slice-read-wide-2 c = let r = c .before .before .before .before in omega (arith, known r, begun r .pre .0 .0 .both)
-
-add-i : tie.Need-add-i Inv-loop μ-loop
-add-i c = let t = turn (read (c .before .before .before .before .before .before .before)) in record { fits = omega (arith, t .loop-test .taken, start (t .before .before) .pre .1 .1) }
-
 loop-again : tie.Need-loop-again Inv-loop μ-loop
 loop-again c =
     let to = c .before .before .before .before .before .before .before in
     let e = read to in
     let s = begun e .args in
     let l = turn e .before .loop in
-    let at = ap (λ (x : ℕ). getD (s .from .now) x 0) (sym (e .wide .ensures .0)) ∙ sym (to .before .before .before .wide2 .ensures .0) ∙ to .before .before .if1 .left in
-    let on = ap (λ (x : ℕ). getD (s .to .now) x 0) (sym (e .wide .ensures .0)) ∙ sym (to .wide3 .ensures .0) in
+    let is = sym (e .wide .ensures .0) in
+    let at = ap (λ (x : ℕ). getD (s .from .now) x 0) is ∙ sym (to .before .before .before .wide2 .ensures .0) ∙ to .before .before .if1 .left in
+    let on = ap (λ (x : ℕ). getD (s .to .now) x 0) is ∙ sym (to .wide3 .ensures .0) in
     let h = c .before .before .before .before in
-    let new = sym (h .before .has .ensures) ∙ h .if2 .left in
-    (omega (arith, turn e .loop-test .taken), rw (c .before .before .put-in .ensures .0, c .mark-on .ensures) (gone-on _ _ _ _ (s .a) _ _ (l .at) (l .i) (to .wide3 .result) (l .inv .1) (edge e) at on new))
+    let gone = gone-on _ _ _ _ (s .a) (l .inv .1) (edge e) at on (sym (h .before .has .ensures) ∙ h .if2 .left) in
+    (omega (arith, turn e .loop-test .taken), rw (c .before .before .put-in .ensures .0, c .mark-on .ensures) gone)
 
 returns-4 : tie.Need-returns-4 Inv-loop μ-loop
 returns-4 c z left usable =
     let l = c .before .before .before .before in
     let s = start (l .before) in
     let all : l .loop .i ≡ s .args .n = omega (arith, l .loop .inv .0, c .before .before .before .loop-test .left) in
-    gone-end _ _ _ _ _ _ _ _ _ (rw (all, c .before .before .if3 .left) at (l .loop .inv .1)) (s .pre .1 .0) (s .pre .1 .1) (sym (c .has2 .ensures) ∙ not-true _ z) left usable
+    let gone = rw (all, c .before .before .if3 .left) at (l .loop .inv .1) in
+    gone-end _ _ _ _ _ gone (s .pre .1 .0) (s .pre .1 .1) (sym (c .has2 .ensures) ∙ not-true _ z) left usable
 
 pub judged-spec : {M : Type 1} → statement M
-judged-spec =
-    tie.close
-    (tie.spec
-    Inv-loop
-    μ-loop
-    (λ c. search needs)  -- mul-after
-    (λ c. search needs)  -- element-copy-out-after
-    (λ c κs. search needs)  -- none-requires
-    (λ c κs. search needs)  -- with-requires
+judged-spec = tie.close (tie.spec Inv-loop μ-loop
+    (λ c. search needs) (λ c. search needs) (λ c κs. search needs) (λ c κs. search needs)  -- mul-after, element-copy-out-after, none-requires, with-requires
     loop-holds
-    (λ c. search needs)  -- mul-wide
-    (λ c. search needs)  -- element-copy-out-wide
-    (λ c κs. search needs)  -- wide-requires
-    (λ c. search needs)  -- mul-wide-2
+    (λ c. search needs) (λ c. search needs) (λ c κs. search needs) (λ c. search needs)  -- mul-wide, element-copy-out-wide, wide-requires, mul-wide-2
     (λ c. known (c .before))  -- shared-slice-read-wide
     (λ c κs. search needs)  -- wide-requires-2
     (λ c z. absurd (true≢false (sym z)))  -- returns
     (λ c. search needs)  -- mul-wide-3
-    shared-slice-read-wide-2
+    (λ c. let r = c .before .before .before .before in omega (arith, known r, begun r .pre .0 .0 .both))  -- shared-slice-read-wide-2
     (λ c κs. search needs)  -- wide-requires-3
     (λ c κs. node (c .before))  -- has-requires
     (λ c z. absurd (true≢false (sym z)))  -- returns-2
     (λ c κs. node (c .before .before .before .before))  -- put-in-requires
     (λ c κs. node (c .before .before .before .before .before .before))  -- mark-on-requires
-    add-i
+    (λ c. let r = read (c .before .before .before .before .before .before .before) in
+    record { fits = omega (arith, turn r .loop-test .taken, begun r .pre .1 .1) })  -- add-i
     (λ c. search needs)  -- loop-less
     loop-again
     (λ c z. absurd (true≢false (sym z)))  -- returns-3
