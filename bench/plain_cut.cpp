@@ -1,5 +1,5 @@
-// The chosen cut in two phases: the least weight, by branching on an unordered route's edges under a bound from
-// packed ones; then the list, edge by edge.
+// The chosen cut in three phases: a first cut, quickly; the least weight, by branching on an unordered route's
+// edges under a bound from packed ones; then the list, edge by edge.
 #include <algorithm>
 
 #include "plain_route.hpp"
@@ -27,8 +27,12 @@ public:
     Cut chosen() {
         std::uint64_t all = 0;
         for (unsigned i = 0; i < graph_.edge_count; ++i) all += graph_.edges[i].weight;
-        Cut best = least({}, all).cut;
-        const Bound whole = bound({}, best.weight);
+        const Bound whole = bound({}, all);
+        Cut best = first_cut(whole);
+        if (best.weight > 0) {
+            const Found lighter = least({}, best.weight - 1);
+            if (lighter.found) best = lighter.cut;
+        }
         const std::uint64_t gap = best.weight - whole.total;
         Cut kept;
         std::uint64_t rest = best.weight;
@@ -80,6 +84,18 @@ private:
             }
         }
         return result;
+    }
+
+    // Of each route that it misses, the edge of which the packing leaves the least.
+    Cut first_cut(const Bound &whole) {
+        Cut cut;
+        for (;;) {
+            const Path missed = bound(cut, 0).first;
+            if (missed.length == 0) return cut;
+            const auto less = [&](unsigned a, unsigned b) { return whole.left[a] < whole.left[b]; };
+            const unsigned edge = *std::min_element(missed.edges, missed.edges + missed.length, less);
+            cut = cut.with(edge, graph_.edges[edge].weight);
+        }
     }
 
     // The lightest cut that contains this one and costs at most so much more.

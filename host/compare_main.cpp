@@ -3,10 +3,12 @@
 //     compare                the gate's measure: every tiny file, and 26,000 from two fixed seeds and a fresh one
 //     compare FACTOR         so many times as many files from seeds
 //     compare FACTOR SEED    the same, with this seed alone
+//     compare FACTOR SEED first    likewise, up to the first difference
 #include <algorithm>
 #include <chrono>
 #include <cstdio>
 #include <cstdlib>
+#include <cstring>
 
 #include "groups.hpp"
 
@@ -24,13 +26,19 @@ void finish(const std::string &name, unsigned files, const Comparison &compariso
     count.add(comparison.differences() == 0);
 }
 
-void compare_groups(std::uint64_t seed, unsigned factor, Count &count) {
+// Until the first difference, if only that is asked for.
+void compare_groups(std::uint64_t seed, unsigned factor, bool first, Count &count) {
     std::printf("seed %llu\n", static_cast<unsigned long long>(seed));
     for (const Group &group : groups()) {
         generate::Random random(seed);
         Comparison comparison;
-        for (unsigned i = 0; i < group.files * factor; ++i) group.compare(comparison, random);
-        finish(group.name, group.files * factor, comparison, count);
+        unsigned files = 0;
+        while (files < group.files * factor && !(first && comparison.differences() > 0)) {
+            group.compare(comparison, random);
+            ++files;
+        }
+        finish(group.name, files, comparison, count);
+        if (first && count.failed > 0) return;
     }
 }
 
@@ -61,10 +69,12 @@ int main(int arguments, char **argument) {
         seeds = {std::strtoull(argument[2], nullptr, 10)};
     else
         seeds.push_back(static_cast<std::uint64_t>(std::chrono::system_clock::now().time_since_epoch().count()));
+    const bool first = arguments > 3 && std::strcmp(argument[3], "first") == 0;
     Count count;
     Comparison tiny;
     finish("tiny", compare_tiny(tiny), tiny, count);
-    for (std::uint64_t seed : seeds) compare_groups(seed, factor, count);
+    for (std::uint64_t seed : seeds)
+        if (!first || count.failed == 0) compare_groups(seed, factor, first, count);
     count.add(every_answer_reached());
     std::printf("%u groups passed, %u failed\n", count.passed, count.failed);
     return count.failed == 0 ? 0 : 1;

@@ -38,11 +38,12 @@ std::size_t stack_of(std::function<void()> call) {
     return words * sizeof(Word);
 }
 
-// 32 sources, each with an edge to every node of a line whose own edges are too heavy to cut. Shortcuts on the line
+// 30 sources, each with an edge to every node of a line whose own edges are too heavy to cut. Shortcuts on the line
 // have lower numbers than the last source's edges, so the search tries them first, though the least cut has none:
-// it goes 1,001 levels down, one for each edge but those of the line.
+// it goes down one level for each edge but those of the line. It does so only below the weight of the cut that it
+// starts from; that one takes two of the three edges beside the line, where the heaviest alone would do.
 Request deep() {
-    const unsigned sources = 32, length = 24, end = sources + length;
+    const unsigned sources = 30, length = 25, end = sources + length, fork = end + 2, tip = end + 3, beside = 3;
     Request request{std::vector<Node>(512, {store, 1}), {}, fence_rules, {}};
     const auto leave = [&](unsigned source) {
         for (unsigned node = sources; node < end; ++node) request.edges.push_back({source, node, 1});
@@ -50,10 +51,13 @@ Request deep() {
     for (unsigned source = 0; source + 1 < sources; ++source) leave(source);
     for (unsigned from = sources; from < end; ++from)
         for (unsigned to = from + 2; to < end; ++to) request.edges.push_back({from, to, 1});
-    request.edges.resize(1024 - length - (length - 1));
+    request.edges.resize(1024 - length - (length - 1) - beside);
     leave(sources - 1);
     for (unsigned node = sources; node + 1 < end; ++node) request.edges.push_back({node, node + 1, 65535});
+    for (unsigned from : {end, end + 1}) request.edges.push_back({from, fork, 1000});
+    request.edges.push_back({fork, tip, 1500});
     for (unsigned source = 0; source < sources; ++source) request.orders.push_back({source, end - 1});
+    for (unsigned from : {end, end + 1}) request.orders.push_back({from, tip});
     return request;
 }
 
@@ -92,6 +96,7 @@ TEST_CASE("no call takes more stack than fence.h says") {
     measure(forks(100), deepest);
     std::printf("deepest stack met: run %zu, ask %zu, strip %zu bytes\n", deepest.run, deepest.ask, deepest.strip);
     CHECK(deepest.run < FENCE_RUN_STACK);
+    CHECK(deepest.run > FENCE_RUN_STACK / 2);  // else the search never went deep, and the line above shows nothing
     CHECK(deepest.ask < FENCE_ASK_STACK);
     CHECK(deepest.strip < FENCE_STRIP_STACK);
 }
