@@ -36,7 +36,7 @@
  *
  *   Memory    Nothing is allocated and nothing is kept between calls. Only the lent buffer is written.
  *   Threads   Any number of threads may call at once, each with a buffer of its own to write to.
- *   Stack     At most FENCE_RUN_STACK, FENCE_ASK_STACK and FENCE_STRIP_STACK bytes.
+ *   Stack     FENCE_RUN_STACK, FENCE_ASK_STACK and FENCE_STRIP_STACK bytes are enough, as measured.
  *   Pointers  A buffer is a pointer and the number of its entries. Where the number is 0 the pointer
  *             may be null. The file and the lent buffer must not overlap.
  *   Input     Any bytes at all may be handed over as a file: what isn't a request is refused.
@@ -93,10 +93,10 @@ extern "C" {
 #define FENCE_ROUTE_ENTRIES 512
 
 /*
- * Bytes of stack that a call takes at most, for a thread that has a small one. Run's search goes one level
- * deeper for each edge of the cut it tries and takes 688 bytes for it; the walk of run and ask takes 208 for
- * each node of a route. Measured, the deepest calls leave a seventh of run's number and of ask's free, and a
- * third of strip's.
+ * Bytes of stack to give a thread that has a small one. They are measured, not proved. Run's search goes one level
+ * deeper for each edge of the cut it tries and takes 656 bytes for it; the walk of run and ask takes 208 for
+ * each node of a route. The deepest calls met leave a sixth of run's number free, a seventh of ask's and three
+ * tenths of strip's.
  */
 #define FENCE_RUN_STACK 1048576
 #define FENCE_ASK_STACK 262144
