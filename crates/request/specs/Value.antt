@@ -1,7 +1,5 @@
 -- The request in a graph by value.
 -- Assumes nothing.
-use mathlib.Core.List.{List}
-use Prim.Native.Nat.{ℕ}
 use Rattle.graph.specs.Value.{Roomy, Sized, graphOf, ordersOf, rulesOf}
 use Rattle.request.specs.File.{Request}
 use Rattle.request.specs.Proper.{Proper}

@@ -3,5 +3,4 @@ pub mod Looked
 pub mod WrittenBack
 pub mod Trails
 pub mod Turns
-pub mod Judged
 pub mod Ways

@@ -1,10 +1,9 @@
 // Finds the edges of a route that does not order its ends, of the edges that are left.
-pub mod judge;
 pub mod pairs;
 
-use crate::judge::judged;
 use crate::pairs::spread;
 use graph::Graph;
+use judge::judged;
 use words::Sets;
 ghost use mathlib.Core.Logic.{_≢_};
 ghost use mathlib.Core.Path.{_≡_};

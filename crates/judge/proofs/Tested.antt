@@ -1,4 +1,4 @@
--- The test of a proposed route, edge by edge: what has been gone is a chain of edges that visits no node twice, and the two sets are right for it.
+-- The test of a proposed route, edge by edge: those tested are a chain that visits no node twice, and the two sets are right for it.
 -- Assumes nothing.
 use mathlib.Core.Bool.{true, false, true≢false}
 use mathlib.Core.List.{List, [], _∷_, _++_}
@@ -37,8 +37,8 @@ module _ (from to fits edges : List ℕ) (a : ℕ) where
   abbrev pub Come : List ℕ → List ℕ → ℕ → ℕ → ℕ → Type 0
   Come es passed i at after = ((es ≡ []) × (passed ≡ []) × (at ≡ a)) ⊎ Led es passed i at after
 
-  -- the first i edges, which are es, have been gone over the nodes `passed`, and have come to `at`; `path` has these nodes and a, in any order
-  pub record Gone (seen after at i : ℕ) : Type 0 where
+  -- the first i edges, which are es, lead over the nodes `passed` and have come to `at`; `path` has these nodes and a, in any order
+  pub record Tested (seen after at i : ℕ) : Type 0 where
     pub es : List ℕ
     pub long : length es ≡ i
     pub firsts : (k : ℕ) → k < i → getD es k 0 ≡ getD edges k 0
@@ -49,8 +49,8 @@ module _ (from to fits edges : List ℕ) (a : ℕ) where
     pub once : NoneTwice (a ∷ passed)
     pub come : Come es passed i at after
 
-  pub gone-start : Gone (put 0 a) (getD fits a 0) a 0
-  gone-start = record {
+  pub tested-start : Tested (put 0 a) (getD fits a 0) a 0
+  tested-start = record {
     es = [];
     long = refl;
     firsts = λ k h. absurd (omega (arith, h));
@@ -63,9 +63,9 @@ module _ (from to fits edges : List ℕ) (a : ℕ) where
   }
 
   -- one edge more, to a node that has not been seen
-  pub gone-on : {seen after at i v : ℕ} → Gone seen after at i → getD edges i 0 < length from
-      → getD from (getD edges i 0) 0 ≡ at → getD to (getD edges i 0) 0 ≡ v → flag seen v ≡ false → Gone (put seen v) (mark fits after v) v (i + 1)
-  gone-on {seen} {after} {at} {i} {v} g f p q new = record {
+  pub tested-on : {seen after at i v : ℕ} → Tested seen after at i → getD edges i 0 < length from
+      → getD from (getD edges i 0) 0 ≡ at → getD to (getD edges i 0) 0 ≡ v → flag seen v ≡ false → Tested (put seen v) (mark fits after v) v (i + 1)
+  tested-on {seen} {after} {at} {i} {v} g f p q new = record {
     es = g .es ++ getD edges i 0 ∷ [];
     long = omega (arith, length-append (g .es) (getD edges i 0 ∷ []), g .long);
     firsts = below-more (λ k. getD (g .es ++ getD edges i 0 ∷ []) k 0 ≡ getD edges k 0) i
@@ -85,10 +85,10 @@ module _ (from to fits edges : List ℕ) (a : ℕ) where
       more left u (inl (z, n, s)) = rw (z, n) (last (f, u i (omega arith), p ∙ s, q))
       more left u (inr d) = rw (d .ends) (chain-join _ (d .chain left (λ k h. u k (omega (arith, h)))) (f, u i (omega arith), p, q))
 
-  -- all n edges have been gone, to the goal, and nothing orders it
-  pub gone-end : {seen after goal n : ℕ} → Gone seen after goal n → 0 < n → n ≤ most-nodes → flag after goal ≡ false
+  -- all n edges have been tested, they lead to the goal, and nothing orders it
+  pub tested-end : {seen after goal n : ℕ} → Tested seen after goal n → 0 < n → n ≤ most-nodes → flag after goal ≡ false
       → (left : List ℕ) → Usable left n → FoundUnordered from to fits left a goal (record { edges = edges; len = n })
-  gone-end {seen} {after} {goal} {n} g pos few out left u = record {
+  tested-end {seen} {after} {goal} {n} g pos few out left u = record {
     short = few;
     none = λ z. absurd (omega (arith, z, pos));
     edge = λ k h. subst (λ (x : ℕ). (x < length from) × Remains left x) (g .firsts k h) (found .edge k h);

@@ -1,4 +1,4 @@
--- `unordered::judge::judged` meets its contract: edge by edge, as long as each goes on from where the one before led to, to a new node.
+-- `judge::judged` meets its contract: edge by edge, as long as each goes on from where the one before led to, to a new node.
 -- Assumes nothing.
 use mathlib.Core.Bool.{true≢false}
 use mathlib.Core.Path.{_≡_, sym, ap, _∙_}
@@ -11,12 +11,12 @@ use Rattle.flags.specs.Flag.{put}
 use Rattle.graph.specs.Limits.{most-nodes}
 use Rattle.sets.specs.Whole.{whole, rows}
 use Rattle.sets.proofs.Rows.{row-at}
-use Rattle.unordered.proofs.Judged.{Gone, gone-start, gone-on, gone-end}
-use Rattle.unordered.proofs.judge.judged.Statement.{statement}
-use Rattle.unordered.proofs.judge.judged.Tie as tie
+use Rattle.judge.proofs.Tested.{Tested, tested-start, tested-on, tested-end}
+use Rattle.judge.proofs.judged.Statement.{statement}
+use Rattle.judge.proofs.judged.Tie as tie
 
 abbrev Inv-loop : tie.InvT-loop
-Inv-loop from to fits edges n a goal after₀ seen₀ at₀ i₀ after seen at i = (i ≤ n) × Gone from to (rows fits) edges a (whole seen) (whole after) at i
+Inv-loop from to fits edges n a goal after₀ seen₀ at₀ i₀ after seen at i = (i ≤ n) × Tested from to (rows fits) edges a (whole seen) (whole after) at i
 
 abbrev μ-loop : tie.MeasureT-loop
 μ-loop from to fits edges n a goal after₀ seen₀ at₀ i₀ after seen at i = n - i
@@ -31,7 +31,7 @@ started c = c .with .ensures .0 ∙ ap (λ (w : ℕ). put w (start c .args .a)) 
 loop-holds : tie.Need-loop-holds Inv-loop μ-loop
 loop-holds c =
     let s = start c .args in
-    (omega arith, rw (started c, ← (row-at (s .fits .now) (s .a))) (gone-start (s .from .now) (s .to .now) (rows (s .fits .now)) (s .edges .now) (s .a)))
+    (omega arith, rw (started c, ← (row-at (s .fits .now) (s .a))) (tested-start (s .from .now) (s .to .now) (rows (s .fits .now)) (s .edges .now) (s .a)))
 
 -- when the number of an edge has been read
 module _ (c : tie.After-wide Inv-loop μ-loop) where
@@ -65,16 +65,16 @@ loop-again c =
     let at = ap (λ (x : ℕ). getD (s .from .now) x 0) is ∙ sym (to .before .before .before .wide2 .ensures .0) ∙ to .before .before .if1 .left in
     let on = ap (λ (x : ℕ). getD (s .to .now) x 0) is ∙ sym (to .wide3 .ensures .0) in
     let h = c .before .before .before .before in
-    let gone = gone-on _ _ _ _ (s .a) (l .inv .1) (edge e) at on (sym (h .before .has .ensures) ∙ h .if2 .left) in
-    (omega (arith, turn e .loop-test .taken), rw (c .before .before .put-in .ensures .0, c .mark-on .ensures) gone)
+    let tested = tested-on _ _ _ _ (s .a) (l .inv .1) (edge e) at on (sym (h .before .has .ensures) ∙ h .if2 .left) in
+    (omega (arith, turn e .loop-test .taken), rw (c .before .before .put-in .ensures .0, c .mark-on .ensures) tested)
 
 returns-4 : tie.Need-returns-4 Inv-loop μ-loop
 returns-4 c z left usable =
     let l = c .before .before .before .before in
     let s = start (l .before) in
     let all : l .loop .i ≡ s .args .n = omega (arith, l .loop .inv .0, c .before .before .before .loop-test .left) in
-    let gone = rw (all, c .before .before .if3 .left) at (l .loop .inv .1) in
-    gone-end _ _ _ _ _ gone (s .pre .1 .0) (s .pre .1 .1) (sym (c .has2 .ensures) ∙ not-true _ z) left usable
+    let tested = rw (all, c .before .before .if3 .left) at (l .loop .inv .1) in
+    tested-end _ _ _ _ _ tested (s .pre .1 .0) (s .pre .1 .1) (sym (c .has2 .ensures) ∙ not-true _ z) left usable
 
 pub judged-spec : {M : Type 1} → statement M
 judged-spec = tie.close (tie.spec Inv-loop μ-loop

@@ -1,0 +1,2 @@
+-- The mathematics of the test of a proposed route.
+pub mod Tested
