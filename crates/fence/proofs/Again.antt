@@ -9,7 +9,7 @@ use lib.ListN.{length, drop, take, take-append-drop}
 use Rattle.graph.specs.declared.Label.{Label}
 use Rattle.graph.specs.declared.Label.the-variants.{Fence}
 use Rattle.graph.specs.declared.Order.{Order}
-use Rattle.fence.specs.Outcome.{withGraph}
+use Rattle.outcome.specs.Outcome.{withGraph}
 use Rattle.graph.specs.Cut.{Rising}
 use Rattle.graph.specs.Graph.{Graph, Orderly, edge, no-order, order}
 use Rattle.graph.specs.Held.{Within}

@@ -7,13 +7,13 @@ use Prim.Native.Nat.{_+_, _-_, _*_, _≤_, ℕ}
 use native.Mathlib.Omega.{arith}
 use lib.ListN.{drop, length, take}
 use lib.Seq.{take-append-seam}
-use Rattle.fence.specs.declared.Report.{Report}
+use Rattle.outcome.specs.declared.Report.{Report}
 use Rattle.graph.specs.declared.Order.{Order}
 use Rattle.graph.specs.declared.Rule.{Rule}
 use Rattle.request.specs.declared.Answer.{Answer}
 use Rattle.request.specs.declared.Answer.the-variants.{BadEdge, BadNode, BadOrder, BadRule, NoFenceRules, NoRoom, NoSuchOrder, NotLoose, ShortBuffer, TooMany, Unreadable}
 use Rattle.fence.specs.Demands.{Accepted, Demand2, Demand3, Forgotten, Runs, StripsBack, none, run}
-use Rattle.fence.specs.Outcome.{RunOutcome, StripOutcome, accepted, fencedFile, no-room, over, refused, withGraph}
+use Rattle.outcome.specs.Outcome.{RunOutcome, StripOutcome, accepted, fencedFile, no-room, over, refused, withGraph}
 use Rattle.graph.specs.Cut.{ChosenCut, weight}
 use Rattle.graph.specs.Graph.{Graph, Sound, no-order}
 use Rattle.graph.specs.Held.{Held, Within}
@@ -24,10 +24,10 @@ use Rattle.request.specs.Answers.{number}
 use Rattle.request.specs.File.{Request, bytes, request}
 use Rattle.request.specs.Proper.{Reads, Proper}
 use Rattle.fence.proofs.Again.{proper-written, proper-stripped, written-edges}
-use Rattle.fence.proofs.Off.{strip-accepted}
-use Rattle.fence.proofs.Ran.{Crowded, run-accepted}
-use Rattle.fence.proofs.Reading.{reads-unique}
-use Rattle.fence.proofs.Unique.{run-unique, strip-unique}
+use Rattle.outcome.proofs.Off.{strip-accepted}
+use Rattle.outcome.proofs.Ran.{Crowded, run-accepted}
+use Rattle.outcome.proofs.Reading.{reads-unique}
+use Rattle.outcome.proofs.Unique.{run-unique, strip-unique}
 use Rattle.graph.proofs.Members.{mem-at}
 use Rattle.graph.proofs.Runs.{Rounds, ended, round, asked-kept, empty-chosen, rounds-nodes, rounds-stripped, written-nodes}
 use Rattle.graph.proofs.Says.{says-le, stable}

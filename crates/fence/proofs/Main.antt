@@ -6,13 +6,13 @@ use mathlib.Core.Logic.{_⊎_}
 use mathlib.Core.Path.{_≡_}
 use Prim.Native.Nat.{_+_, _*_, ℕ}
 use lib.ListN.{length}
-use Rattle.fence.specs.declared.Report.{Report}
-use Rattle.fence.specs.declared.Shown.{Shown}
+use Rattle.outcome.specs.declared.Report.{Report}
+use Rattle.outcome.specs.declared.Shown.{Shown}
 use Rattle.graph.specs.declared.Order.{Order}
 use Rattle.graph.specs.declared.Rule.{Rule}
 use Rattle.request.specs.declared.Answer.{Answer}
 use Rattle.fence.specs.Demands.{Accepted, Demand2, Demand3, Forgotten, Runs}
-use Rattle.fence.specs.Outcome.{AskBad, AskOutcome, RunBad, RunOutcome, StripBad, StripOutcome, refusal, unshown}
+use Rattle.outcome.specs.Outcome.{AskBad, AskOutcome, RunBad, RunOutcome, StripBad, StripOutcome, refusal, unshown}
 use Rattle.fence.specs.Samples.{FileClaim}
 use Rattle.graph.specs.Cut.{ChosenCut}
 use Rattle.graph.specs.Graph.{Graph, Sound}
@@ -21,8 +21,8 @@ use Rattle.graph.specs.Samples.{Sample, more-samples, samples}
 use Rattle.request.specs.Answers.{rank}
 use Rattle.request.specs.File.{Request}
 use Rattle.request.specs.Proper.{Reads}
-use Rattle.fence.proofs.Unique as unique
-use Rattle.fence.proofs.Refusals as refusals
+use Rattle.outcome.proofs.Unique as unique
+use Rattle.outcome.proofs.Refusals as refusals
 use Rattle.fence.proofs.Demands as demands
 use Rattle.fence.proofs.Samples as examples
 

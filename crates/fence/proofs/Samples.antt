@@ -9,8 +9,8 @@ use native.Mathlib.Omega.{arith}
 use lib.Dec.{T, eqb, leb, ltb}
 use lib.ListN.{length}
 use Rattle.fence.specs.Demands.{Demand2}
-use Rattle.fence.specs.declared.Report.{Report}
-use Rattle.fence.specs.Outcome.{RunOutcome, fencedFile, over, withGraph}
+use Rattle.outcome.specs.declared.Report.{Report}
+use Rattle.outcome.specs.Outcome.{RunOutcome, fencedFile, over, withGraph}
 use Rattle.fence.specs.Samples.{FileClaim, RunsTo, StripsTo}
 use Rattle.graph.specs.Cut.{ChosenCut, weight}
 use Rattle.graph.specs.Limits.{most-edges, most-nodes}
@@ -21,9 +21,9 @@ use Rattle.request.specs.Layout.{countIn, endCheck, inRow, recordAt}
 use Rattle.request.specs.Earliest.{any, earliestFrom}
 use Rattle.request.specs.Tables.{badEdge, badLeft, badNode, badOrder, badRight, badRule, checked, leads, listed, noFences, readingOf, repeated, samePair}
 use Rattle.fence.proofs.Demands.{cut-demand, run-idle}
-use Rattle.fence.proofs.Off.{strip-accepted, strip-stuck}
-use Rattle.fence.proofs.Ran.{Crowded, run-accepted}
-use Rattle.fence.proofs.Showing.{ask-accepted}
+use Rattle.outcome.proofs.Off.{strip-accepted, strip-stuck}
+use Rattle.outcome.proofs.Ran.{Crowded, run-accepted}
+use Rattle.outcome.proofs.Showing.{ask-accepted}
 use Rattle.graph.proofs.Samples.{more-true, samples-true}
 use Rattle.graph.proofs.Says.{says-T, says-and, says-eq, says-every, says-le, says-lt}
 use Rattle.request.proofs.Answered.{bytes-length}

@@ -4,10 +4,10 @@ use mathlib.Core.List.{List, List·Memᴰ, [], _++_}
 use mathlib.Core.Path.{_≡_}
 use Prim.Native.Nat.{_+_, _≤_, ℕ}
 use lib.ListN.{length, take}
-use Rattle.fence.specs.declared.Report.{Report}
+use Rattle.outcome.specs.declared.Report.{Report}
 use Rattle.graph.specs.declared.Order.{Order}
 use Rattle.graph.specs.declared.Rule.{Rule}
-use Rattle.fence.specs.Outcome.{RunOutcome, StripOutcome, over, withGraph}
+use Rattle.outcome.specs.Outcome.{RunOutcome, StripOutcome, over, withGraph}
 use Rattle.graph.specs.Cut.{Rising, ChosenCut, weight}
 use Rattle.graph.specs.Graph.{Graph}
 use Rattle.graph.specs.Held.{Held}

@@ -6,7 +6,7 @@ use Prim.Native.Nat.{_+_, _≤_, ℕ}
 use lib.ListN.{length}
 use Rattle.graph.specs.declared.Order.{Order}
 use Rattle.request.specs.declared.Answer.the-variants.{NotLoose}
-use Rattle.fence.specs.Outcome.{AskOutcome, RunOutcome, StripOutcome, fencedFile, over, refusal}
+use Rattle.outcome.specs.Outcome.{AskOutcome, RunOutcome, StripOutcome, fencedFile, over, refusal}
 use Rattle.graph.specs.Cut.{weight}
 use Rattle.graph.specs.Held.{Held}
 use Rattle.graph.specs.Limits.{most-nodes}

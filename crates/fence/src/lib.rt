@@ -1,29 +1,10 @@
 // The public operations: run, ask and strip over files, for C to call.
-mod answer;
-mod asking;
-mod running;
-mod stripping;
-
+use outcome::Report;
+use outcome::Shown;
+use outcome::refused;
+use outcome::unshown;
 use request::Reading;
-ghost use Rattle.fence.specs.Outcome.{RunOutcome, AskOutcome, StripOutcome};
-
-// What run and strip return.
-#[repr(C)]
-pub struct Report {
-    pub answer: u64,
-    pub place: u64,
-    pub fences: u64,
-    pub weight: u64,
-    pub length: u64,
-}
-
-// What ask returns.
-#[repr(C)]
-pub struct Shown {
-    pub answer: u64,
-    pub place: u64,
-    pub length: u64,
-}
+ghost use Rattle.outcome.specs.Outcome.{RunOutcome, AskOutcome, StripOutcome};
 
 // Writes the file with a fence on each edge of the chosen cut.
 #[no_mangle]
@@ -31,7 +12,7 @@ pub extern "C" fn fence_run(file: &[u8], out: &mut [u8]) -> Report
     ensures { λ r. ⌜ RunOutcome (now (file .entry)) (now (out .entry)) r (now (out .exit)) ⌝ }
 {
     match request::read(file) {
-        Reading::Refused(answer, place) => answer::refused(answer, place),
+        Reading::Refused(answer, place) => refused(answer, place),
         Reading::Whole(counts) => running::run(request::decode(file, counts), out),
     }
 }
@@ -42,7 +23,7 @@ pub extern "C" fn fence_ask(file: &[u8], order: u64, route: &mut [u16]) -> Shown
     ensures { λ r. ⌜ AskOutcome (now (file .entry)) order (now (route .entry)) r (now (route .exit)) ⌝ }
 {
     match request::read(file) {
-        Reading::Refused(answer, place) => answer::unshown(answer, place),
+        Reading::Refused(answer, place) => unshown(answer, place),
         Reading::Whole(counts) => asking::ask(request::decode(file, counts), order, route),
     }
 }
@@ -53,7 +34,7 @@ pub extern "C" fn fence_strip(file: &[u8], count: u64, out: &mut [u8]) -> Report
     ensures { λ r. ⌜ StripOutcome (now (file .entry)) count (now (out .entry)) r (now (out .exit)) ⌝ }
 {
     match request::read(file) {
-        Reading::Refused(answer, place) => answer::refused(answer, place),
+        Reading::Refused(answer, place) => refused(answer, place),
         Reading::Whole(counts) => stripping::strip(request::decode(file, counts), count, out),
     }
 }

@@ -1,7 +1,7 @@
 -- `fence::fence_ask` meets its contract: a file that is not accepted is refused; else its graph is asked.
 use borrow.Author.Needs.{needs}
 use Rattle.request.proofs.Loading.{read-as-told}
-use Rattle.fence.proofs.Refusals.{ask-refused}
+use Rattle.outcome.proofs.Refusals.{ask-refused}
 use Rattle.fence.proofs.fence_ask.Statement.{statement}
 use Rattle.fence.proofs.fence_ask.Tie as tie
 

@@ -1,7 +1,7 @@
 -- `fence::fence_run` meets its contract: a file that is not accepted is refused; else its graph is run.
 use borrow.Author.Needs.{needs}
 use Rattle.request.proofs.Loading.{read-as-told}
-use Rattle.fence.proofs.Refusals.{run-refused}
+use Rattle.outcome.proofs.Refusals.{run-refused}
 use Rattle.fence.proofs.fence_run.Statement.{statement}
 use Rattle.fence.proofs.fence_run.Tie as tie
 

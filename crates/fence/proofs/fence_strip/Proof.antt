@@ -1,7 +1,7 @@
 -- `fence::fence_strip` meets its contract: a file that is not accepted is refused; else its graph is stripped.
 use borrow.Author.Needs.{needs}
 use Rattle.request.proofs.Loading.{read-as-told}
-use Rattle.fence.proofs.Refusals.{strip-refused}
+use Rattle.outcome.proofs.Refusals.{strip-refused}
 use Rattle.fence.proofs.fence_strip.Statement.{statement}
 use Rattle.fence.proofs.fence_strip.Tie as tie
 

@@ -1,0 +1,2 @@
+-- The laws of ask over a graph by value.
+pub mod Shows

@@ -1,9 +1,0 @@
--- `fence::answer::unshown` meets its contract: field by field.
-use borrow.Author.Needs.{needs}
-use Rattle.fence.proofs.answer.unshown.Statement.{statement}
-use Rattle.fence.proofs.answer.unshown.Tie as tie
-
-pub unshown-spec : {M : Type 1} → statement M
-unshown-spec = tie.close (tie.spec
-    (λ c κs. search needs)  -- number-requires
-    (λ c. λ i. record { answer = c .number .ensures i; place = c .before .args .place; length = 0 }))  -- returns

@@ -1,0 +1,2 @@
+-- The laws of run over a graph by value.
+pub mod Fenced

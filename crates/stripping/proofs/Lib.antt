@@ -1,0 +1,2 @@
+-- The laws of strip over a graph by value.
+pub mod Freed
