@@ -1,4 +1,4 @@
--- All that is promised, each by one citation. The definitions: fence/specs/Outcome and Demands, and what they cite (docs/PROMISES.md lists them).
+-- All that is promised, each by one citation. The definitions: outcome/specs/Outcome, fence/specs/Demands, and what they cite (docs/PROMISES.md lists them).
 -- That run, ask and strip return for every input, and what is said here of outcomes holds of them, are their contracts (src/lib.rt), which require nothing.
 -- Assumes nothing.
 use mathlib.Core.List.{List, List·Memᴰ, _++_}

@@ -27,7 +27,7 @@ ask-spec = tie.close (tie.spec
     (λ c κs. search needs)  -- unshown-requires
     (λ c. let t = c .before in unknown-order (t .before .before .pre) _ (t .if1 .taken) (c .unshown .ensures))  -- returns
     (λ c κs. search needs)  -- unshown-requires-2
-    (λ c. let t = c .before in few-entries (t .before .before .before .pre) _ (omega arith) (t .if2 .taken) (c .unshown2 .ensures))  -- returns-2
+    (λ c. let t = c .before in few-entries (t .before .before .before .pre) _ (omega arith) (omega (arith, t .if2 .taken)) (c .unshown2 .ensures))  -- returns-2
     (λ c κs. search needs) (λ c κs. search needs) (λ c. search needs) (λ c. search needs)  -- succ-of-requires, fits-of-requires, mul-o, element-copy-out-o
     (λ c. search needs) (λ c. search needs)  -- cast-open-route, cast-open-route-2
     open-route-requires

@@ -33,9 +33,9 @@ pub run-spec : {M : Type 1} → statement M
 run-spec = tie.close (tie.spec
     (λ c κs. let p = c .before .pre in (p .sized, p .proper .sound, p .proper .orderly))  -- chosen-cut-requires
     (λ c κs. search needs) (λ c κs. search needs) (λ c. search needs) (λ c κs. search needs)  -- flags-requires, count-requires, add-if1, refused-requires
-    (λ c. full-nodes (known (c .before .before .before)) (c .before .if1 .taken) (c .refused .ensures))  -- returns
+    (λ c. full-nodes (known (c .before .before .before)) (omega (arith, c .before .if1 .taken)) (c .refused .ensures))  -- returns
     (λ c. search needs) (λ c κs. search needs)  -- add-if2, refused-requires-2
-    (λ c. full-edges (known (c .before .before .before .before .before)) (c .before .if2 .taken) (c .refused2 .ensures))  -- returns-2
+    (λ c. full-edges (known (c .before .before .before .before .before)) (omega (arith, c .before .if2 .taken)) (c .refused2 .ensures))  -- returns-2
     put-on-requires
     (λ c κs. search needs) (λ c κs. search needs)  -- size-of-requires, refused-requires-3
     returns-3
