@@ -86,6 +86,12 @@
 extern "C" {
 #endif
 
+/* Of this header and its archive. While the first number is 0, a new record, answer or limit raises the second. */
+#define FENCE_VERSION "0.1.0"
+#define FENCE_VERSION_MAJOR 0
+#define FENCE_VERSION_MINOR 1
+#define FENCE_VERSION_PATCH 0
+
 /* No accepted file is longer, and none is written that is: a buffer of this size is never too short. */
 #define FENCE_MAX_FILE 10626
 
