@@ -1,5 +1,5 @@
-// rebuilds.cpp: ninety rebuilds in a row of one procedure, each on what the last one wrote, while its orders change now
-// and then. Beside it an inserter that fences every order asked, held or not, on its own last output.
+// rebuilds.cpp: ninety rebuilds in a row of one procedure, each on what the last one wrote, while its orders change
+// now and then. Beside it an inserter that fences every order asked, held or not, on its own last output.
 //
 //     rebuilds FOLDER     prints the fences by rebuild; writes rebuilds.svg
 #include <algorithm>
@@ -76,8 +76,8 @@ std::optional<std::size_t> first_edge(const Request &r, Order order) {
     return led[order.second];
 }
 
-// The other inserter: no order is held until it is fenced, and nothing tells an old fence from none. Orders that share
-// an edge share its fence. Its graph stays in memory, where no limit stops it.
+// The other inserter: no order is held until it is fenced, and nothing tells an old fence from none. Orders that
+// share an edge share its fence. Its graph stays in memory, where no limit stops it.
 void fence_every_order(Request &r) {
     std::set<std::size_t> chosen;
     for (const Order &order : r.orders)
@@ -98,8 +98,8 @@ std::size_t count_open(const Request &r) {
 }
 
 void show(int number, const Rebuild &now, const Request &ours) {
-    std::cout << std::setw(7) << number << std::setw(8) << ours.orders.size() << std::setw(6) << now.open << std::setw(6)
-              << now.ours << std::setw(7) << now.other;
+    std::cout << std::setw(7) << number << std::setw(8) << ours.orders.size() << std::setw(6) << now.open
+              << std::setw(6) << now.ours << std::setw(7) << now.other;
     if (now.changed && number > 0)
         std::cout << "   new order (" << ours.orders.back().first << ',' << ours.orders.back().second << ')'
                   << (now.open ? "" : ", held already");
@@ -125,9 +125,10 @@ constexpr double left = 60, top = 20, width = 600, height = 270;
 double across(double number) { return left + width * number / rebuilds; }
 double up(double fences) { return top + height - height * std::log10(std::max(fences, 1.0)) / 3; }
 
-void text(std::ostream &svg, double x, double y, const char *anchor, const std::string &words, const char *fill = "#333") {
-    svg << "<text x=\"" << x << "\" y=\"" << y << "\" text-anchor=\"" << anchor << "\" fill=\"" << fill << "\">" << words
-        << "</text>\n";
+void text(std::ostream &svg, double x, double y, const char *anchor, const std::string &words,
+          const char *fill = "#333") {
+    svg << "<text x=\"" << x << "\" y=\"" << y << "\" text-anchor=\"" << anchor << "\" fill=\"" << fill << "\">"
+        << words << "</text>\n";
 }
 
 void line(std::ostream &svg, const std::vector<Rebuild> &all, std::size_t Rebuild::*fences, const char *stroke) {
@@ -152,7 +153,8 @@ void plot(const std::vector<Rebuild> &all, const std::string &path) {
     for (std::size_t number = 0; number < all.size(); ++number)
         if (all[number].changed)
             svg << "<path stroke=\"#2b5fa8\" d=\"M" << across(double(number)) << ' ' << top + height << "v8\"/>\n";
-    svg << "<path fill=\"none\" stroke=\"#333\" d=\"M" << left << ' ' << top << "v" << height << "h" << width << "\"/>\n";
+    svg << "<path fill=\"none\" stroke=\"#333\" d=\"M" << left << ' ' << top << "v" << height << "h" << width
+        << "\"/>\n";
     line(svg, all, &Rebuild::other, "#c0392b");
     line(svg, all, &Rebuild::ours, "#2b5fa8");
     text(svg, across(45), up(double(all[45].other)) - 12, "end", "every order fenced at every rebuild", "#c0392b");
@@ -188,7 +190,7 @@ int main(int count, char **words) {
     }
     plot(all, (count > 1 ? words[1] : std::string(".")) + "/rebuilds.svg");
     const bool back = first_bytes_back(ours, first);
-    std::cout << "stripped to " << node_count << " nodes, with the first orders: "
-              << (back ? "the first bytes" : "OTHER BYTES") << '\n';
+    std::cout << "stripped to " << node_count
+              << " nodes, with the first orders: " << (back ? "the first bytes" : "OTHER BYTES") << '\n';
     return back ? 0 : 1;
 }

@@ -1,8 +1,10 @@
 // The C++ face: values, refusals and their sentences.
 #include <doctest/doctest.h>
 
+#include <array>
 #include <set>
 #include <string>
+#include <type_traits>
 
 #include "fence.hpp"
 #include "samples.hpp"
@@ -53,6 +55,51 @@ TEST_CASE("pointer and size, empty vectors, no vector at all") {
     CHECK(fence::Bytes(nullptr, 0).data() != nullptr);
 }
 
+TEST_CASE("arrays and whatever has data and size are files too, an array of C isn't") {
+    struct Span {  // as std::span, which C++17 doesn't have
+        const std::uint8_t *start;
+        std::size_t length;
+        const std::uint8_t *data() const { return start; }
+        std::size_t size() const { return length; }
+    };
+    std::array<std::uint8_t, 84> array;
+    std::copy(d.begin(), d.end(), array.begin());
+    CHECK(fence::run(array)->fences == 2);
+    CHECK(fence::ask(Span{d.data(), d.size()}, 0)->route.size() == 3);
+    CHECK_FALSE(std::is_convertible_v<std::uint8_t[84], fence::Bytes>);
+    CHECK_FALSE(std::is_convertible_v<std::vector<std::uint16_t>, fence::Bytes>);
+}
+
+TEST_CASE("value gives the value, or throws the refusal") {
+    const auto done = fence::run(d);
+    CHECK(done.value().file.size() == 108);
+    CHECK(fence::run(d).value().fences == 2);
+    const auto refused = fence::ask(d, 3);
+    CHECK_THROWS_WITH(refused.value(), "answer 8, place 0: There is no order of this number.");
+    try {
+        fence::run(Bytes{'N', 'D'}).value();
+        FAIL("a refusal has no value");
+    } catch (const fence::Refused &thrown) {
+        CHECK(thrown.refusal().answer == 1);
+    }
+}
+
+TEST_CASE("rerun takes off what an order brought that has gone, run keeps it") {
+    Request r = graph_d();
+    r.orders = {{0, 2}};
+    Request fenced = read(fence::run(written(r)).value().file).request;
+    CHECK(fenced.nodes.size() == 5);
+    fenced.orders = {{0, 3}, {0, 1}};
+    const Bytes today = written(fenced);
+    r.orders = fenced.orders;
+    CHECK(fence::run(today)->file.size() == today.size() + 12);
+    CHECK(fence::rerun(today, 4)->file == fence::run(written(r))->file);
+    CHECK(fence::rerun(today, 4)->fences == 1);
+    CHECK(fence::rerun(today, 3).refusal().answer == 10);
+    CHECK(fence::rerun(Bytes{}, 0).refusal().answer == 1);
+    CHECK(fence::rerun(written(line(512)), 512).refusal().answer == 9);
+}
+
 TEST_CASE("no buffer of the face is ever too short") {
     CHECK(fence::run(written(line(511))));
     CHECK(fence::ask(written(line(512)), 0)->route.size() == 512);
@@ -62,4 +109,5 @@ TEST_CASE("each answer has a sentence of its own") {
     std::set<std::string> sentences;
     for (std::uint64_t answer = 0; answer <= 12; ++answer) sentences.insert(fence::Refusal{answer, 0}.sentence());
     CHECK(sentences.size() == 13);
+    CHECK(std::string(fence_sentence(11)) == "The lent buffer is too short.");
 }

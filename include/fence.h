@@ -25,7 +25,7 @@
  *       uint8_t out[FENCE_MAX_FILE];
  *       fence_report r = fence_run(file, sizeof file - 1, out, sizeof out);
  *       if (r.answer != 0) {
- *           printf("refused: answer %d, place %d\n", (int)r.answer, (int)r.place);
+ *           printf("%s (answer %d, place %d)\n", fence_sentence(r.answer), (int)r.answer, (int)r.place);
  *           return 1;
  *       }
  *       printf("%d fences of weight %d, %d bytes\n", (int)r.fences, (int)r.weight, (int)r.length);
@@ -155,6 +155,28 @@ fence_route fence_ask(const uint8_t *file, size_t file_len, uint64_t order, uint
  */
 fence_report fence_strip(const uint8_t *file, size_t file_len, uint64_t count, uint8_t *out,
                          size_t out_len);
+
+/* An answer in words, for people; 0 and numbers that no function gives have a sentence too. */
+#ifndef __cplusplus
+static /* in C each file has its own; in C++ an inline function is one for all */
+#endif
+inline const char *fence_sentence(uint64_t answer) {
+    static const char *const sentences[] = {
+        "The file is accepted.",
+        "A record can't be read here, or the file doesn't end in one EN.",
+        "There are more records of this mark than the limit allows.",
+        "This node's kind is above 2, or it is a fence with an address.",
+        "This edge has an end that is no node, or weight 0, or stands twice.",
+        "This rule has a kind above 3, or a variable that doesn't belong there.",
+        "This order names a missing node, or one node twice, or stands twice.",
+        "The rules lack wildcard to fence, or fence to wildcard.",
+        "There is no order of this number.",
+        "With its fences the graph would pass 512 nodes or 1,024 edges.",
+        "The count is above the nodes, or a node that goes is named by an order or isn't as run adds it.",
+        "The lent buffer is too short.",
+    };
+    return answer < sizeof sentences / sizeof sentences[0] ? sentences[answer] : "This answer is unknown.";
+}
 
 #ifdef __cplusplus
 }

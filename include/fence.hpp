@@ -6,14 +6,23 @@
 //     else
 //         std::cerr << done.refusal().sentence() << " (place " << done.refusal().place << ")\n";
 //
-// Each operation gives a value or a refusal. The C functions throw nothing and call nothing back; here only
-// the vectors allocate, after the C function has returned.
+// Each operation gives a value or a refusal. The C functions throw nothing and call nothing back; here only the
+// vectors allocate, after the C function has returned, and value() throws where there is none.
+// fence_request.hpp builds such files, reads them, says more of a refusal, and draws them.
 #ifndef FENCE_HPP
 #define FENCE_HPP
+
+#if __cplusplus < 201703L
+#error "fence.hpp needs C++17"
+#else
 
 #include <array>
 #include <cstddef>
 #include <cstdint>
+#include <cstdlib>
+#include <stdexcept>
+#include <string>
+#include <type_traits>
 #include <utility>
 #include <variant>
 #include <vector>
@@ -22,11 +31,14 @@
 
 namespace fence {
 
-// A request file that someone else owns. A vector, or a pointer and a size.
+// A request file that someone else owns, and keeps for the call: a vector, std::array or span of bytes, or a
+// pointer and a size. No array of C: one made from a string has a byte too many.
 class Bytes {
 public:
     Bytes(const std::uint8_t *data, std::size_t size) : data_(size ? data : nothing()), size_(size) {}
-    Bytes(const std::vector<std::uint8_t> &bytes) : Bytes(bytes.data(), bytes.size()) {}
+    template <class Row, class = std::enable_if_t<std::is_convertible_v<
+                             decltype(std::declval<const Row &>().data()), const std::uint8_t *> > >
+    Bytes(const Row &row) : Bytes(row.data(), row.size()) {}
 
     const std::uint8_t *data() const { return data_; }
     std::size_t size() const { return size_; }
@@ -47,33 +59,56 @@ struct Refusal {
     std::uint64_t answer;
     std::uint64_t place;  // of answer 1: a byte offset; of 2 to 6: a record's number; else 0
 
-    const char *sentence() const {
-        static constexpr std::array<const char *, 12> sentences = {
-            "The file is accepted.",
-            "A record can't be read here, or the file doesn't end in one EN.",
-            "There are more records of this mark than the limit allows.",
-            "This node's kind is above 2, or it is a fence with an address.",
-            "This edge has an end that is no node, or weight 0, or stands twice.",
-            "This rule has a kind above 3, or a variable that doesn't belong there.",
-            "This order names a missing node, or one node twice, or stands twice.",
-            "The rules lack wildcard to fence, or fence to wildcard.",
-            "There is no order of this number.",
-            "With its fences the graph would pass 512 nodes or 1,024 edges.",
-            "The count is above the nodes, or a node that goes is named by an order or isn't as run adds it.",
-            "The lent buffer is too short.",
-        };
-        return answer < sentences.size() ? sentences[answer] : "This answer is unknown.";
-    }
+    const char *sentence() const { return fence_sentence(answer); }
 };
+
+// What value() throws.
+class Refused : public std::runtime_error {
+public:
+    explicit Refused(const Refusal &why)
+        : std::runtime_error("answer " + std::to_string(why.answer) + ", place " + std::to_string(why.place) +
+                             ": " + why.sentence()),
+          why_(why) {}
+
+    const Refusal &refusal() const { return why_; }
+
+private:
+    Refusal why_;
+};
+
+namespace detail {
+
+// Programs built without exceptions end here instead.
+template <class Exception>
+[[noreturn]] void raise(const Exception &exception) {
+#ifdef __cpp_exceptions
+    throw exception;
+#else
+    static_cast<void>(exception);
+    std::abort();
+#endif
+}
+
+}  // namespace detail
 
 // A value, or the refusal that stands in its place.
 template <class Value>
-class Result {
+class [[nodiscard]] Result {
 public:
     Result(Value value) : either_(std::move(value)) {}
     Result(Refusal refusal) : either_(refusal) {}
 
     explicit operator bool() const { return std::holds_alternative<Value>(either_); }
+
+    // The value; where there is none, a Refused is thrown.
+    const Value &value() const & {
+        if (!*this) detail::raise(Refused(refusal()));
+        return **this;
+    }
+    Value value() && {
+        if (!*this) detail::raise(Refused(refusal()));
+        return std::move(*std::get_if<Value>(&either_));
+    }
 
     // Only where there is a value.
     const Value &operator*() const { return *std::get_if<Value>(&either_); }
@@ -111,7 +146,7 @@ inline Result<Written> written(const fence_report &report, const Room &room) {
 
 }  // namespace detail
 
-// Adds the lightest fences that make every order held.
+// Adds the lightest fences that make every order held. Fences that are there already stay where they are.
 inline Result<Written> run(Bytes file) {
     detail::Room room;
     return detail::written(fence_run(file.data(), file.size(), room.data(), room.size()), room);
@@ -131,6 +166,14 @@ inline Result<Written> strip(Bytes file, std::uint64_t count) {
     return detail::written(fence_strip(file.data(), file.size(), count, room.data(), room.size()), room);
 }
 
+// Strips to `count` nodes, then runs: the lightest fences for the file's orders of today, where run alone would
+// keep what earlier orders brought. The numbers are those of this run.
+inline Result<Written> rerun(Bytes file, std::uint64_t count) {
+    const Result<Written> stripped = strip(file, count);
+    return stripped ? run(stripped->file) : stripped;
+}
+
 }  // namespace fence
 
+#endif
 #endif
