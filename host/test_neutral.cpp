@@ -22,7 +22,7 @@ fence::Request with_loads(fence::Request r, std::uint8_t address) {
     r.edges.clear();
     for (const fence::Edge &e : edges) {
         const auto made_up = static_cast<std::uint16_t>(r.nodes.size());
-        r.nodes.push_back({fence::Kind::load, address, ""});
+        r.nodes.push_back({fence::Kind::load, address});
         r.edges.push_back({e.from, made_up, e.weight});
         r.edges.push_back({made_up, e.to, e.weight});
     }

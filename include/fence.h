@@ -44,7 +44,8 @@
  *             and place is 0.
  *   Buffers   What lies in the lent buffer past the length written keeps its value.
  *   Time      Every call ends. The searches of run and ask are exact, so the worst case grows exponentially
- *             with the graph; bench/TIMES.md has figures for graphs of real procedures.
+ *             with the graph; bench/TIMES.md has figures for graphs like those of real procedures. A call can't be
+ *             ended from outside: where that matters make it in a process of its own, with a time limit.
  *
  * The request file. Numbers are little-endian; every record starts with a two-byte mark. Records stand
  * in the order of this table, as many of each as wished, and one EN ends the file.
@@ -132,6 +133,8 @@ typedef struct {
  * nodes. A cut edge leads to its fence, at its own place, and an edge of the same weight from there on is
  * added at the end: 12 bytes more for each fence. Where all orders are held the file is copied; so a second
  * run changes nothing.
+ * Run never moves or drops a fence that it finds. After orders went, or came one by one, what is there may
+ * weigh more than today's orders need: strip, then run gives the least for them.
  * Answers: 0, 1 to 7, 9, 11.
  */
 fence_report fence_run(const uint8_t *file, size_t file_len, uint8_t *out, size_t out_len);

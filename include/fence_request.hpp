@@ -59,8 +59,8 @@ inline constexpr RecordRow records[] = {
 
 struct Node {
     Kind kind;
-    std::uint8_t address;  // 0 for a fence
-    std::string name;      // for people: a file has no names
+    std::uint8_t address;   // 0 for a fence
+    std::string name = {};  // for people: a file has no names
 };
 struct Edge {
     std::uint16_t from, to, weight;
@@ -74,7 +74,7 @@ struct Rule {
 };
 struct Order {
     std::uint16_t first, second;
-    std::string name;
+    std::string name = {};
 };
 
 // The sides of rules: rule(store(1), load(1)) keeps a store before a load of the same address, rule(store(1),
@@ -215,10 +215,10 @@ inline Reading reading(Bytes file) {
     Request r;
     r.rules.clear();
     Reader at(file);
-    while (at.next(0)) r.nodes.push_back({at.kind(0), at.byte(1), ""});
+    while (at.next(0)) r.nodes.push_back({at.kind(0), at.byte(1)});
     while (at.next(1)) r.edges.push_back({at.number(0), at.number(1), at.number(2)});
     while (at.next(2)) r.rules.push_back({{at.kind(0), at.byte(1)}, {at.kind(2), at.byte(3)}});
-    while (at.next(3)) r.orders.push_back({at.number(0), at.number(1), ""});
+    while (at.next(3)) r.orders.push_back({at.number(0), at.number(1)});
     const bool ended = at.next(4);
     return {std::move(r), at.end(), ended};
 }
@@ -344,10 +344,9 @@ inline std::vector<Placed> placed(const Request &before, const Request &after) {
 // May a load of an address that nothing else uses stand for a block without accesses, under these rules? It may
 // where it joins no two labels that the rules themselves leave apart. A refusal is one of the rules.
 inline Result<bool> neutral(const std::vector<Rule> &rules) {
-    const Node made_up{Kind::load, 0, ""};
+    const Node made_up{Kind::load, 0};
     const Node all[] = {
-        {Kind::store, 1, ""},     {Kind::store, 2, ""}, {Kind::load, 1, ""}, {Kind::load, 2, ""}, made_up,
-        {Kind::full_fence, 0, ""}};
+        {Kind::store, 1}, {Kind::store, 2}, {Kind::load, 1}, {Kind::load, 2}, {Kind::full_fence, 0}};
     const auto held = [&](std::vector<Node> line) {
         Request r;
         r.nodes = std::move(line);
