@@ -53,6 +53,7 @@ prints() {
 counted '\| +([0-9]+) passed \| +([0-9]+) failed' "$build/tests" --no-colors=true
 for example in example_c example_cpp; do prints "2 fences of weight 2, 108 bytes" /dev/null "$build/$example"; done
 prints "open, on the route 0 1 2" list/d.request "$build/readme_ask"
+prints "$(sed -n '/^    x86-like: /,/^$/ s/^    //p' ../docs/FROM-A-COMPILER.md)" /dev/null "$build/compiler_neutral"
 prints "$(sed -n '/^    x86-like rules$/,/^$/ s/^    //p' ../README.md)" /dev/null "$build/readme_queue" "$build"
 counted '([0-9]+) groups passed, ([0-9]+) failed' "$build/compare" "${comparison[@]}"
 
