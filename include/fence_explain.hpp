@@ -7,6 +7,8 @@
 
 #if __cplusplus >= 201703L
 
+#include <numeric>
+
 namespace fence {
 
 namespace detail {
@@ -21,33 +23,57 @@ struct Case {
     const Request &request() const { return read.request; }
 };
 
-inline std::string no_node(const Request &r, std::uint16_t node) {
-    return "there is no node " + words(node) + ", there are " + words(r.nodes.size());
+// How many records of each sort the lists have.
+inline std::array<std::size_t, 4> counts(const Request &r) {
+    return {r.nodes.size(), r.edges.size(), r.rules.size(), r.orders.size()};
 }
 
-// A record by its number and its fields.
-inline std::string said(std::uint64_t record, const std::string &fields, const std::string &cause) {
-    return "record " + words(record) + " (" + fields + "): " + cause;
+// The number, over the whole file, that the first record of a sort has.
+inline std::size_t start_of(const Request &r, Record record) {
+    const auto all = counts(r);
+    return std::accumulate(all.begin(), all.begin() + static_cast<std::ptrdiff_t>(record), std::size_t{0});
+}
+
+// The refused record's number in its list, if the list has it.
+inline std::optional<std::size_t> refused_in(const Case &c, Record record) {
+    const std::size_t start = start_of(c.request(), record);
+    if (c.why.place < start || c.why.place - start >= counts(c.request())[record]) return std::nullopt;
+    return static_cast<std::size_t>(c.why.place) - start;
+}
+
+inline std::string side_word(Side side) {
+    if (!row_of(side.kind)) return kind_word(side.kind) + " variable " + words(side.variable);
+    return kind_word(side.kind) + (side.variable != 0 ? " " + words(side.variable) : "");
+}
+
+inline std::string fields_of(const Node &n) { return "kind " + words(n.kind) + ", address " + words(n.address); }
+inline std::string fields_of(const Edge &e) {
+    return "from " + words(e.from) + " to " + words(e.to) + ", weight " + words(e.weight);
+}
+inline std::string fields_of(const Rule &r) { return side_word(r.left) + " to " + side_word(r.right); }
+inline std::string fields_of(const Order &o) { return words(o.first) + " before " + words(o.second); }
+
+// A record by its number in the file, its number in its list and its fields; then what is wrong with it.
+inline std::string said(const Request &r, Record record, std::size_t i, const std::string &fields,
+                        const std::string &cause) {
+    return "record " + words(start_of(r, record) + i) + " (" + records[record].word + " " + words(i) + ", " +
+           fields + "): " + cause;
 }
 
 inline std::string said_node(const Request &r, std::size_t i, const std::string &cause) {
-    return said(i,
-                "node " + words(i) + ", kind " + words(r.nodes[i].kind) + ", address " + words(r.nodes[i].address),
-                cause);
+    return said(r, node_record, i, fields_of(r.nodes[i]), cause);
 }
 
 inline std::string said_edge(const Request &r, std::size_t i, const std::string &cause) {
-    const Edge &e = r.edges[i];
-    return said(
-        r.nodes.size() + i,
-        "edge " + words(i) + ", from " + words(e.from) + " to " + words(e.to) + ", weight " + words(e.weight),
-        cause);
+    return said(r, edge_record, i, fields_of(r.edges[i]), cause);
 }
 
 inline std::string said_order(const Request &r, std::size_t i, const std::string &cause) {
-    return said(r.nodes.size() + r.edges.size() + r.rules.size() + i,
-                "order " + words(i) + ", " + words(r.orders[i].first) + " before " + words(r.orders[i].second),
-                cause);
+    return said(r, order_record, i, fields_of(r.orders[i]), cause);
+}
+
+inline std::string no_node(const Request &r, std::uint16_t node) {
+    return "there is no node " + words(node) + ", there are " + words(r.nodes.size());
 }
 
 inline std::string shown(std::uint8_t byte) {
@@ -74,26 +100,20 @@ inline std::string no_record(Bytes file, std::size_t at) {
 inline std::string unreadable(const Case &c) {
     if (c.why.place > c.file.size()) return "";
     const auto at = static_cast<std::size_t>(c.why.place);
-    const Request &r = c.request();
-    const std::string here =
-        "byte " + words(at) + " of " + words(c.file.size()) + ", record " +
-        words(r.nodes.size() + r.edges.size() + r.rules.size() + r.orders.size() + c.read.ended) + ": ";
+    const std::string here = "byte " + words(at) + " of " + words(c.file.size()) + ", record " +
+                             words(start_of(c.request(), end_record) + c.read.ended) + ": ";
     if (at == c.file.size()) return here + "the file ends without EN";
     if (c.read.ended) return here + shown(c.file.data()[at]) + " stands after EN, which ends a file";
     return here + no_record(c.file, at);
 }
 
 inline std::string too_many(const Case &c) {
-    const Request &r = c.request();
-    std::size_t before = 0, row = 0;
-    for (std::size_t count : {r.nodes.size(), r.edges.size(), r.rules.size(), r.orders.size()}) {
-        const std::string word = records[row].word;
-        if (c.why.place >= before && c.why.place < before + count)
-            return said(
-                c.why.place, word + " " + words(c.why.place - before),
-                "there are " + words(count) + " " + word + "s, and " + words(records[row].most) + " are the most");
-        before += count;
-        ++row;
+    for (Record record : {node_record, edge_record, rule_record, order_record}) {
+        const std::string word = records[record].word;
+        if (const auto i = refused_in(c, record))
+            return "record " + words(c.why.place) + " (" + word + " " + words(*i) + "): there are " +
+                   words(counts(c.request())[record]) + " " + word + "s, and " + words(records[record].most) +
+                   " are the most";
     }
     return "";
 }
@@ -109,36 +129,31 @@ inline std::string kinds_allowed(bool KindRow::*where) {
 }
 
 inline std::string bad_node(const Case &c) {
-    if (c.why.place >= c.request().nodes.size()) return "";
-    const auto i = static_cast<std::size_t>(c.why.place);
-    const Node &n = c.request().nodes[i];
+    const auto i = refused_in(c, node_record);
+    if (!i) return "";
+    const Node &n = c.request().nodes[*i];
     const KindRow *row = row_of(n.kind);
     const std::string cause =
         !row || !row->in_nodes
             ? "its kind is " + words(n.kind) + ", and a node's is " + kinds_allowed(&KindRow::in_nodes)
             : "its address is " + words(n.address) + ", and a " + row->word + " has 0";
-    return said_node(c.request(), i, cause);
+    return said_node(c.request(), *i, cause);
 }
 
 inline std::string bad_edge(const Case &c) {
     const Request &r = c.request();
-    const std::uint64_t i = c.why.place - r.nodes.size();
-    if (c.why.place < r.nodes.size() || i >= r.edges.size()) return "";
-    const Edge &e = r.edges[i];
+    const auto i = refused_in(c, edge_record);
+    if (!i) return "";
+    const Edge &e = r.edges[*i];
     const auto cause = [&]() -> std::string {
         if (e.from >= r.nodes.size()) return no_node(r, e.from);
         if (e.to >= r.nodes.size()) return no_node(r, e.to);
         if (e.weight == 0) return "its weight is 0, and 1 is the least";
-        for (std::size_t k = 0; k < i; ++k)
+        for (std::size_t k = 0; k < *i; ++k)
             if (r.edges[k].from == e.from && r.edges[k].to == e.to) return "edge " + words(k) + " is the same pair";
-        return fence_sentence(4);
+        return fence_sentence(c.why.answer);
     };
-    return said_edge(r, i, cause());
-}
-
-inline std::string side_word(Side side) {
-    if (!row_of(side.kind)) return kind_word(side.kind) + " variable " + words(side.variable);
-    return kind_word(side.kind) + (side.variable != 0 ? " " + words(side.variable) : "");
+    return said_edge(r, *i, cause());
 }
 
 // What is wrong with one side; `first` is the variable that stands left of it, 0 if none does.
@@ -154,31 +169,30 @@ inline std::string bad_side(Side side, const std::string &which, unsigned first)
 }
 
 inline std::string bad_rule(const Case &c) {
-    const Request &r = c.request();
-    const std::uint64_t before = r.nodes.size() + r.edges.size(), i = c.why.place - before;
-    if (c.why.place < before || i >= r.rules.size()) return "";
-    const Rule &rule = r.rules[i];
+    const auto i = refused_in(c, rule_record);
+    if (!i) return "";
+    const Rule &rule = c.request().rules[*i];
     std::string cause = bad_side(rule.left, "left", 0);
     if (cause.empty()) cause = bad_side(rule.right, "right", rule.left.variable);
-    return said(c.why.place, "rule " + words(i) + ", " + side_word(rule.left) + " to " + side_word(rule.right),
-                cause.empty() ? fence_sentence(5) : cause);
+    if (cause.empty()) cause = fence_sentence(c.why.answer);
+    return said(c.request(), rule_record, *i, fields_of(rule), cause);
 }
 
 inline std::string bad_order(const Case &c) {
     const Request &r = c.request();
-    const std::uint64_t before = r.nodes.size() + r.edges.size() + r.rules.size(), i = c.why.place - before;
-    if (c.why.place < before || i >= r.orders.size()) return "";
-    const Order &o = r.orders[i];
+    const auto i = refused_in(c, order_record);
+    if (!i) return "";
+    const Order &o = r.orders[*i];
     const auto cause = [&]() -> std::string {
         if (o.first >= r.nodes.size()) return no_node(r, o.first);
         if (o.second >= r.nodes.size()) return no_node(r, o.second);
         if (o.first == o.second) return "its two nodes are one";
-        for (std::size_t k = 0; k < i; ++k)
+        for (std::size_t k = 0; k < *i; ++k)
             if (r.orders[k].first == o.first && r.orders[k].second == o.second)
                 return "order " + words(k) + " is the same";
-        return fence_sentence(6);
+        return fence_sentence(c.why.answer);
     };
-    return said_order(r, i, cause());
+    return said_order(r, *i, cause());
 }
 
 inline std::string fence_rule_lacking(const Case &c) {
@@ -201,11 +215,12 @@ inline std::string no_order(const Case &c) {
 inline std::string no_room(const Case &c) {
     const std::uint64_t nodes = c.request().nodes.size(), edges = c.request().edges.size();
     const std::uint64_t taken = c.asked && *c.asked <= nodes ? nodes - *c.asked : 0;
-    if (nodes > records[0].most || edges > records[1].most || taken > edges) return "";
-    const std::uint64_t room = std::min(records[0].most - (nodes - taken), records[1].most - (edges - taken));
-    return words(nodes - taken) + " nodes of at most " + words(records[0].most) + " and " + words(edges - taken) +
-           " edges of at most " + words(records[1].most) + " leave room for " + words(room) +
-           (room == 1 ? " fence" : " fences") + ", and the orders need more";
+    if (nodes > records[node_record].most || edges > records[edge_record].most || taken > edges) return "";
+    const std::uint64_t room =
+        std::min(records[node_record].most - (nodes - taken), records[edge_record].most - (edges - taken));
+    return words(nodes - taken) + " nodes of at most " + words(records[node_record].most) + " and " +
+           words(edges - taken) + " edges of at most " + words(records[edge_record].most) + " leave room for " +
+           words(room) + (room == 1 ? " fence" : " fences") + ", and the orders need more";
 }
 
 // The edges that end at a node, and those that start there.

@@ -33,7 +33,7 @@ enum class Kind : std::uint8_t { store = 0, load = 1, full_fence = 2, any = 3 };
 
 namespace detail {
 
-// What there is of kinds and records. A new one is a line here.
+// All that is known here of a kind: a new one is a name above and a line here.
 struct KindRow {
     Kind kind;
     const char *word;
@@ -46,10 +46,12 @@ inline constexpr KindRow kinds[] = {
     {Kind::any, "any", false, false, true},
 };
 
+// And of a record, in the order in which they stand in a file.
 struct RecordRow {
     const char *mark, *word;
     std::size_t size, most;
 };
+enum Record : std::size_t { node_record, edge_record, rule_record, order_record, end_record };
 inline constexpr RecordRow records[] = {
     {"ND", "node", 4, 512}, {"ED", "edge", 8, 1024}, {"RU", "rule", 6, 32},
     {"OR", "order", 6, 32}, {"EN", "end", 2, 1},
@@ -170,9 +172,8 @@ inline std::uint16_t field(std::uint64_t number, std::uint64_t most, const char 
     return static_cast<std::uint16_t>(number);
 }
 
-inline void put(std::vector<std::uint8_t> &out, const char *mark, std::initializer_list<unsigned> fields,
-                int width) {
-    out.insert(out.end(), {static_cast<std::uint8_t>(mark[0]), static_cast<std::uint8_t>(mark[1])});
+inline void put(std::vector<std::uint8_t> &out, Record record, std::initializer_list<unsigned> fields, int width) {
+    for (int letter : {0, 1}) out.push_back(static_cast<std::uint8_t>(records[record].mark[letter]));
     for (unsigned field : fields)
         for (int byte = 0; byte < width; ++byte, field >>= 8) out.push_back(static_cast<std::uint8_t>(field & 255));
 }
@@ -182,13 +183,13 @@ class Reader {
 public:
     explicit Reader(Bytes file) : file_(file) {}
 
-    // Takes the next record if it has this row's mark and all its bytes.
-    bool next(std::size_t row) {
-        const RecordRow &record = records[row];
+    // Takes the next record if it is one of these, with all its bytes.
+    bool next(Record record) {
+        const RecordRow &row = records[record];
         const std::uint8_t *at = file_.data() + end_;
-        if (file_.size() - end_ < record.size || at[0] != record.mark[0] || at[1] != record.mark[1]) return false;
+        if (file_.size() - end_ < row.size || at[0] != row.mark[0] || at[1] != row.mark[1]) return false;
         fields_ = at + 2;
-        end_ += record.size;
+        end_ += row.size;
         return true;
     }
     std::size_t end() const { return end_; }
@@ -215,11 +216,11 @@ inline Reading reading(Bytes file) {
     Request r;
     r.rules.clear();
     Reader at(file);
-    while (at.next(0)) r.nodes.push_back({at.kind(0), at.byte(1)});
-    while (at.next(1)) r.edges.push_back({at.number(0), at.number(1), at.number(2)});
-    while (at.next(2)) r.rules.push_back({{at.kind(0), at.byte(1)}, {at.kind(2), at.byte(3)}});
-    while (at.next(3)) r.orders.push_back({at.number(0), at.number(1)});
-    const bool ended = at.next(4);
+    while (at.next(node_record)) r.nodes.push_back({at.kind(0), at.byte(1)});
+    while (at.next(edge_record)) r.edges.push_back({at.number(0), at.number(1), at.number(2)});
+    while (at.next(rule_record)) r.rules.push_back({{at.kind(0), at.byte(1)}, {at.kind(2), at.byte(3)}});
+    while (at.next(order_record)) r.orders.push_back({at.number(0), at.number(1)});
+    const bool ended = at.next(end_record);
     return {std::move(r), at.end(), ended};
 }
 
@@ -300,12 +301,13 @@ inline std::uint8_t Request::address(const Ref &address) {
 inline std::vector<std::uint8_t> Request::bytes() const {
     std::vector<std::uint8_t> out;
     const auto number = [](Kind kind) { return static_cast<unsigned>(kind); };
-    for (const Node &n : nodes) detail::put(out, "ND", {number(n.kind), n.address}, 1);
-    for (const Edge &e : edges) detail::put(out, "ED", {e.from, e.to, e.weight}, 2);
+    for (const Node &n : nodes) detail::put(out, detail::node_record, {number(n.kind), n.address}, 1);
+    for (const Edge &e : edges) detail::put(out, detail::edge_record, {e.from, e.to, e.weight}, 2);
     for (const Rule &r : rules)
-        detail::put(out, "RU", {number(r.left.kind), r.left.variable, number(r.right.kind), r.right.variable}, 1);
-    for (const Order &o : orders) detail::put(out, "OR", {o.first, o.second}, 2);
-    detail::put(out, "EN", {}, 0);
+        detail::put(out, detail::rule_record,
+                    {number(r.left.kind), r.left.variable, number(r.right.kind), r.right.variable}, 1);
+    for (const Order &o : orders) detail::put(out, detail::order_record, {o.first, o.second}, 2);
+    detail::put(out, detail::end_record, {}, 0);
     return out;
 }
 
