@@ -13,7 +13,7 @@ host=$PWD/../host
 # shellcheck source=../host/machine.sh
 . "$host/machine.sh"
 [ -f "$archive" ] || { echo "the library is missing: run 'rt staticlib fence'"; exit 1; }
-install_missing python3 || { echo "packages could not be installed: see $install_log"; exit 1; }
+install_missing "$cxx" python3 "${to_run[@]}"
 ulimit -s 65536 # the other build may want it
 
 mkdir -p "$build"

@@ -14,7 +14,7 @@ host=$PWD/../host
 # shellcheck source=../host/machine.sh
 . "$host/machine.sh"
 [ -f "$archive" ] || { echo "the library is missing: run 'rt staticlib fence'"; exit 1; }
-install_missing glpk-utils coinor-cbc python3 || { echo "packages could not be installed: see $install_log"; exit 1; }
+install_missing "$cxx" glpsol cbc python3 "${to_run[@]}"
 
 ulimit -s 65536 # the plain version goes one call deeper for each edge of a cut it tries, with some KB for each
 

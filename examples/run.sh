@@ -6,7 +6,7 @@ cd "$(dirname "$0")/.."
 
 # shellcheck source=../host/machine.sh
 . host/machine.sh
-install_missing graphviz || { echo "packages could not be installed: see $install_log"; exit 1; }
+install_missing "$cxx" dot "${to_run[@]}"
 
 build=target/examples
 mkdir -p "$build"

@@ -8,7 +8,7 @@ failed=0
 
 # shellcheck source=machine.sh
 . ./machine.sh
-install_missing || { echo "0 passed, 1 failed"; exit 1; }
+install_missing "${to_run[@]}" || { echo "0 passed, 1 failed"; exit 1; }
 
 # Compares what fence-list prints for its standard input with a text.
 prints() {

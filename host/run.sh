@@ -20,7 +20,7 @@ fail() { printf '%s\n%d passed, %d failed\n' "$1" "$passed" $((failed + 1)); exi
 . ./machine.sh
 
 [ -f "$archive" ] || fail "the library is missing: run 'rt staticlib fence'"
-install_missing doctest-dev cmake make || fail "packages could not be installed: see $install_log"
+install_missing "$cc" "$cxx" doctest cmake make "${to_run[@]}" || fail "what the host tests need is missing"
 
 mkdir -p "$build"
 log=$build/log

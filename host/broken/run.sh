@@ -14,7 +14,7 @@ passed=0 failed=0
 
 # shellcheck source=../machine.sh
 . "$host/machine.sh"
-install_missing g++ || { echo "packages could not be installed: see $install_log"; echo "0 passed, 1 failed"; exit 1; }
+install_missing g++ || { echo "0 passed, 1 failed"; exit 1; }
 
 count() { if [ "$1" -eq 0 ]; then passed=$((passed + 1)); else failed=$((failed + 1)); fi; }
 compile() { ${CXX:-g++} -std=c++17 -O2 -I "$host" -I "$host/../include" -I "$host/../bench" "$@"; }
