@@ -25,7 +25,9 @@ run_both() {
     said=$("${emulator[@]}" "$1/example_c") || return
     [ "$said" = "2 fences of weight 2, 108 bytes" ] || { echo "in C: $said"; return 1; }
     mkdir -p "$1/pictures"
-    "${emulator[@]}" "$1/example_cpp" "$1/pictures" && grep -q '^digraph' "$1/pictures/peterson_after.dot"
+    said=$("${emulator[@]}" "$1/example_cpp" "$1/pictures") || return
+    [ "$said" = "a fence between store turn and load flag1" ] || { echo "in C++: $said"; return 1; }
+    grep -q '^digraph' "$1/pictures/peterson_before.dot" && grep -q '4: load data' "$1/pictures/peterson_after.dot"
 }
 
 # Puts the flags of pkg-config behind a command. It writes a backslash before a blank, so the shell has to read them.
