@@ -40,10 +40,10 @@ counted() {
     if [ "$status" -ne 0 ] && [ $((10#${BASH_REMATCH[2]})) -eq 0 ]; then echo "$1: status $status"; failed=$((failed + 1)); fi
 }
 
-# Runs a program of the docs, with a file as its input, and compares what it prints.
+# Runs a program of the docs, with a file as its input, and compares what it prints, refusals too.
 prints() {
     local said=$1 input=$2; shift 2
-    if [ "$("${emulator[@]}" "$@" <"$input")" = "$said" ]; then
+    if [ "$("${emulator[@]}" "$@" <"$input" 2>&1)" = "$said" ]; then
         passed=$((passed + 1))
     else
         echo "$(basename "$1"), as the docs have it, prints something else"; failed=$((failed + 1))
@@ -53,6 +53,7 @@ prints() {
 counted '\| +([0-9]+) passed \| +([0-9]+) failed' "$build/tests" --no-colors=true
 for example in example_c example_cpp; do prints "2 fences of weight 2, 108 bytes" /dev/null "$build/$example"; done
 prints "open, on the route 0 1 2" list/d.request "$build/readme_ask"
+prints "$(sed -n 2p damaged/edge_to_missing_node.said)" damaged/edge_to_missing_node.request "$build/readme_ask"
 prints "$(sed -n '/^    x86-like: /,/^$/ s/^    //p' ../docs/FROM-A-COMPILER.md)" /dev/null "$build/compiler_neutral"
 prints "$(sed -n '/^    x86-like rules$/,/^$/ s/^    //p' ../README.md)" /dev/null "$build/readme_queue" "$build"
 counted '([0-9]+) groups passed, ([0-9]+) failed' "$build/compare" "${comparison[@]}"
