@@ -143,7 +143,8 @@ int main(int arguments, char **argument) {
     const std::pair<const char *, std::vector<corpus::Instance>> sets[] = {
         {"corpus", corpus::instances(seed)}, {"sixty", corpus::sixty(seed)}, {"real", corpus::real(seed)}};
     std::printf(
-        "number,set,family,weights,nodes,edges,orders,open,ask,ask worst,stopped,answer,weight,library,plain\n");
+        "number,set,family,weights,nodes,edges,orders,open,ask median ns,ask worst ns,"
+        "library stopped,answer,weight,library ns,plain ns\n");
     std::size_t number = 0;
     for (const auto &[name, instances] : sets) {
         for (const corpus::Instance &instance : instances) {

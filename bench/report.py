@@ -1,17 +1,15 @@
 #!/usr/bin/env python3
-"""Makes the table and the plot out of what `measure` told, with the solvers' times.
+"""Makes the table out of the rows of `times.csv`.
 
-    report.py RESULTS FOLDER LIMIT WHERE TABLE PLOT ROWS...
+    report.py TIMES.csv LIMIT OUT
 
-RESULTS is what `measure` printed, FOLDER where it wrote the requests, LIMIT the seconds that it gave a run of the
-library. WHERE says in words where ours ran. ROWS is the command that starts `rows`.
+LIMIT is the seconds that `measure` gave a run of the library.
 """
-import csv
 import statistics
 import sys
 
-from plot import plot
-from solvers import LIMITS, SOLVERS, solve, trivial
+import records
+from solvers import LIMITS, SOLVERS
 
 
 def milliseconds(nanoseconds):
@@ -27,8 +25,12 @@ def column(rows, name):
     return [row[name] for row in rows if name in row]
 
 
-def over(rows, name, base):
-    return [row[name] / row[base] for row in rows if name in row and base in row]
+def times(rows, who):
+    return column(rows, who + " ns")
+
+
+def over(rows, who, base):
+    return [row[who + " ns"] / row[base + " ns"] for row in rows if who + " ns" in row and base + " ns" in row]
 
 
 def cells_line(cells):
@@ -46,7 +48,7 @@ def solver_ratios(rows, solver):
 
 def line(name, rows):
     cells = [name, str(len(rows))]
-    cells += [milliseconds(f(column(rows, who))) for who in ("library", "plain") for f in (statistics.median, max)]
+    cells += [milliseconds(f(times(rows, who))) for who in ("library", "plain") for f in (statistics.median, max)]
     cells += [ratio(f(over(rows, "library", "plain"))) for f in (statistics.median, max)]
     for solver in SOLVERS:
         cells += solver_ratios(rows, solver)
@@ -71,22 +73,22 @@ def sixty_table(rows):
     text = head_of("asked for, in milliseconds | files | library median | 99 of 100 | worst | plain worst "
                    "| library/plain worst")
     for name, group in groups(rows, "family"):
-        ours = sorted(column(group, "library"))
+        ours = sorted(times(group, "library"))
         text.append(cells_line([ASKED[name], str(len(group)), milliseconds(statistics.median(ours)),
                                 milliseconds(ours[max(0, len(ours) * 99 // 100 - 1)]), milliseconds(ours[-1]),
-                                milliseconds(max(column(group, "plain"))),
+                                milliseconds(max(times(group, "plain"))),
                                 ratio(max(over(group, "library", "plain")))]))
     return text
 
 
 def real_line(name, rows):
-    worst = "stopped" if any(column(rows, "stopped")) else milliseconds(max(column(rows, "library")))
-    cells = [name, str(len(rows)), milliseconds(statistics.median(column(rows, "ask"))),
-             milliseconds(max(column(rows, "ask worst"))), milliseconds(statistics.median(column(rows, "library"))),
+    worst = "stopped" if any(column(rows, "library stopped")) else milliseconds(max(times(rows, "library")))
+    cells = [name, str(len(rows)), milliseconds(statistics.median(times(rows, "ask median"))),
+             milliseconds(max(times(rows, "ask worst"))), milliseconds(statistics.median(times(rows, "library"))),
              worst, ratio(statistics.median(over(rows, "library", "plain")))]
     for solver in SOLVERS:
-        times = column(rows, solver)
-        cells += [milliseconds(statistics.median(times)) if times else ""] + solver_ratios(rows, solver)
+        took = times(rows, solver)
+        cells += [milliseconds(statistics.median(took)) if took else ""] + solver_ratios(rows, solver)
     return cells_line(cells)
 
 
@@ -95,26 +97,25 @@ def named(row):
             f"weights {row['weights']}")
 
 
-def took(row, name):
+def time_of(row, who):
     """A time; that of a stopped call is only known to be above it."""
-    cut_short = row["stopped" if name == "library" else name + " stopped"]
-    return f"{name} {'over ' if cut_short else ''}{milliseconds(row[name])} ms"
+    return f"{who} {'over ' if row[who + ' stopped'] else ''}{milliseconds(row[who + ' ns'])} ms"
 
 
 def ahead(rows):
     """The files that a solver was done with before the library."""
     text = []
     for row in rows:
-        quicker = [s for s in SOLVERS if s in row and row[s] < row["library"]]
+        quicker = [s for s in SOLVERS if s + " ns" in row and row[s + " ns"] < row["library ns"]]
         if quicker:
-            text.append(f"- {named(row)}: " + ", ".join(took(row, name) for name in ["library"] + quicker))
+            text.append(f"- {named(row)}: " + ", ".join(time_of(row, who) for who in ["library"] + quicker))
     return text
 
 
 def stopped(rows):
     """How many calls of each kind were stopped."""
-    kinds = [("run", "stopped")] + [(name, name + " stopped") for name in SOLVERS]
-    return ", ".join(f"{sum(column(rows, key))} of {name}" for name, key in kinds)
+    kinds = [("run", "library"), *((name, name) for name in SOLVERS)]
+    return ", ".join(f"{sum(column(rows, who + ' stopped'))} of {name}" for name, who in kinds)
 
 
 def rounds(rows):
@@ -147,17 +148,29 @@ def corpus_section(rows):
     return text + ["", f"Rounds: {rounds(rows)}. Stopped, a solver after {LIMITS['corpus']} s: {stopped(rows)}."]
 
 
-def table(sets, base, limit, where):
+def where(row):
+    if "emulator" not in row:
+        return [f"Library, plain version and solvers ran directly on {row['machine']}."]
+    return [f"This machine is {row['machine']}: library and plain version, both x86-64 code, ran under an emulator",
+            f"({row['emulator']}), the solvers directly. So the ratio of library to plain version counts; the",
+            "library's own times are too long, and the solvers' ratios too small, by the emulator's factor."]
+
+
+def table(sets, limit):
+    row = sets["corpus"][0]
+    starts = [f"{milliseconds(row[name + ' start ns'])} ms ({name})" for name in SOLVERS]
     text = ["# Times of run and ask", "",
-            "Made by `bench/run.sh`, from one run. Times are in milliseconds for one call.", "", where, "",
+            "Made by `bench/run.sh`, from one run. Times are in milliseconds for one call.", "",
+            "[times.csv](times.csv) has a row for each file of the three sets below (corpus, sixty and real), with",
+            "times in nanoseconds. A cell is empty where nothing was measured; a stopped call has the time until",
+            "then.", "", *where(row), "",
             "The solvers find the weight of the same cut (no tie rule) by an integer program: a variable for each",
             "edge, and a row for each unordered route, which one of its edges at least must cut. There may be very",
             "many such routes, so the program starts with a few: for each order one after the other, none over an",
             "edge of those before, until there is no more. As long as a solution leaves unordered routes, rows for",
             "such, found in the same way, are added, and the solver starts again: that is a round. Its time is",
             "that of its processes, all rounds together; our search for rows isn't counted. Starting a process",
-            f"costs {milliseconds(base['glpsol'])} ms (glpsol) and {milliseconds(base['cbc'])} ms (cbc), in each "
-            "round.", "",
+            f"costs {' and '.join(starts)}, in each round.", "",
             "The plain version was fitted to the library: it takes routes in the library's order and drops the",
             "same edges from a branch, so that both search the same tree and the ratio is that of the code, not of",
             "the search. Its tables are as long as the file wants; the library's have room for 512 nodes, which is",
@@ -170,30 +183,12 @@ def table(sets, base, limit, where):
     return "\n".join(text)
 
 
-def read(results):
-    with open(results, newline="") as lines:
-        rows = list(csv.DictReader(lines))
-    for row in rows:
-        row["nodes"], row["stopped"] = int(row["nodes"]), row["stopped"] == "1"
-        if row["stopped"]:
-            del row["plain"]
-        for name in ("ask", "ask worst", "library", "plain"):
-            if name in row:
-                row[name] = float(row[name])
-    return dict(groups(rows, "set"))
-
-
 def main():
-    results, folder, limit, where, table_path, plot_path = sys.argv[1:7]
-    sets = read(results)
-    solved = sets["corpus"] + sets["real"]
-    solve(solved, folder, sys.argv[7:])
-    text = table(sets, trivial(folder), limit, where)
+    path, limit, out_path = sys.argv[1:]
+    text = table(dict(groups(records.read(path), "set")), limit)
     print(text)
-    with open(table_path, "w") as out:
+    with open(out_path, "w") as out:
         out.write(text)
-    with open(plot_path, "w") as out:
-        out.write(plot(solved, "; library and plain under an emulator" if "emulator" in where else ""))
 
 
 if __name__ == "__main__":

@@ -1,11 +1,11 @@
-// Rows for the cut as an integer program, which has a variable for each edge, 1 if it is cut: the edges of an
-// unordered route must have a sum of at least 1. Prints such rows as the edges chosen so far do not fulfil, a line
-// of edge numbers for each.
+// The cut as an integer program, which has a variable for each edge, 1 if it is cut: the edges of an unordered
+// route must have a sum of at least 1. Prints a line with the edges' weights, then such rows as the edges chosen so
+// far do not fulfil, a line of edge numbers for each.
 //
 //     rows REQUEST [EDGE...]
 //
 // For each order one route after the other, none over an edge of those before, until there is no more: several rows
-// at once save rounds. Nothing is printed just where the edges chosen are a cut.
+// at once save rounds. There is no row just where the edges chosen are a cut.
 #include <algorithm>
 #include <cstdio>
 #include <cstdlib>
@@ -22,6 +22,11 @@ using Left = std::vector<std::uint16_t>;
 Bytes contents(const char *path) {
     std::ifstream in(path, std::ios::binary);
     return {std::istreambuf_iterator<char>(in), {}};
+}
+
+void print_weights(const plain::Graph &graph) {
+    for (unsigned i = 0; i < graph.edge_count; ++i) std::printf("%u ", graph.edges[i].weight);
+    std::printf("\n");
 }
 
 void print_row(const plain::Path &path) {
@@ -43,6 +48,7 @@ int main(int arguments, char **argument) {
     const Bytes file = contents(argument[1]);
     plain::Graph graph;
     if (plain::read(file.data(), file.size(), graph).answer != 0) return 1;
+    print_weights(graph);
     Left left(graph.edge_count, 1);
     for (int i = 2; i < arguments; ++i) left.at(std::strtoul(argument[i], nullptr, 10)) = 0;
     const plain::Fits fits = plain::fits_of(graph);

@@ -1,6 +1,6 @@
 #!/usr/bin/env bash
 # Times the library against a plain C++ version of its algorithm and against two integer-program solvers, on a corpus
-# made from a seed; and counts the visits of the walk. Writes bench/TIMES.md, bench/times.svg and bench/VISITS.md.
+# made from a seed; and counts the visits of the walk. Writes TIMES.md, times.csv, times.svg and VISITS.md in bench.
 #
 #     bench/run.sh [SEED]
 set -eu -o pipefail
@@ -27,17 +27,10 @@ $cxx -std=c++17 -O3 -DNDEBUG -Wall -Wextra -I ../include -o "$build/rows" \
 $cxx -std=c++17 -O3 -DNDEBUG -Wall -Wextra -I ../include -I "$host" -o "$build/visits" \
     visits.cpp shapes.cpp classics.cpp plain_walk.cpp "$host/generate.cpp"
 
-if [ ${#emulator[@]} -eq 0 ]; then
-    where="Library, plain version and solvers ran directly on $(uname -m)."
-else
-    where="This machine is $(uname -m): library and plain version, both x86-64 code, ran under an emulator
-(${emulator[0]}), the solvers directly. So the ratio of library to plain version counts; the library's own times are
-too long, and the solvers' ratios too small, by the emulator's factor."
-fi
-
 "${emulator[@]}" "$build/measure" "$seed" "$build/requests" "$limit" >"$build/results.csv"
-python3 -B report.py "$build/results.csv" "$build/requests" "$limit" "$where" TIMES.md times.svg \
-    "${emulator[@]}" "$build/rows"
+python3 -B solvers.py "$build/results.csv" "$build/requests" times.csv "${emulator[@]}" "$build/rows"
+python3 -B report.py times.csv "$limit" TIMES.md
+python3 -B plot.py times times.csv times.svg
 
 cat >VISITS.md <<END
 Visits of the walk for every ordered pair of nodes of drawn graphs. Made by \`bench/run.sh $seed\`.

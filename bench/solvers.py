@@ -1,10 +1,18 @@
+#!/usr/bin/env python3
 """Runs the solvers on the requests that `measure` wrote, each cut as an integer program.
+
+    solvers.py RESULTS FOLDER OUT ROWS...
+
+RESULTS is what `measure` printed, FOLDER where it wrote the requests. OUT gets the same rows with the solvers'
+columns. ROWS is the command that starts `rows`; if it has several words, the first is an emulator.
 
 The program has a variable for each edge, and a row for each unordered route: one of its edges at least is cut.
 There may be very many such routes, so it starts with a few, and gets more as long as the solution misses some.
 """
+import csv
 import math
 import os
+import platform
 import statistics
 import subprocess
 import sys
@@ -39,22 +47,11 @@ def timed(command):
     return (time.perf_counter() - start) * 1e9
 
 
-def weights_of(request):
-    """The edges' weights: their records stand behind those of the nodes."""
-    with open(request, "rb") as file:
-        data = file.read()
-    at, weights = 0, []
-    while data[at:at + 2] == b"ND":
-        at += 4
-    while data[at:at + 2] == b"ED":
-        weights.append(int.from_bytes(data[at + 6:at + 8], "little"))
-        at += 8
-    return weights
-
-
-def rows_missing(command, request, chosen):
+def weights_and_rows(command, request, chosen):
+    """The edges' weights, and rows for unordered routes that these chosen edges leave."""
     told = subprocess.run([*command, request, *map(str, chosen)], check=True, stdout=subprocess.PIPE, text=True)
-    return [line.split() for line in told.stdout.splitlines()]
+    weights, *rows = (line.split() for line in told.stdout.splitlines())
+    return [int(weight) for weight in weights], rows
 
 
 def write_program(path, weights, rows):
@@ -72,15 +69,16 @@ def write_program(path, weights, rows):
 def in_rounds(solver, command, request, folder, limit):
     """The solver's own time over all rounds, how many these were, and the weight, None if it was stopped."""
     program, answer = os.path.join(folder, "program.lp"), os.path.join(folder, "answer")
-    weights, spent, rounds, chosen = weights_of(request), 0, 0, []
-    rows = missing = rows_missing(command, request, chosen)
+    spent, rounds, chosen = 0, 0, []
+    weights, missing = weights_and_rows(command, request, chosen)
+    rows = missing
     while missing:
         edges = write_program(program, weights, rows)
         took, chosen, optimal = solver(program, edges, answer, limit - spent / 1e9)
         spent, rounds = spent + took, rounds + 1
         if not optimal or spent > limit * 1e9:
             return spent, rounds, None
-        missing = rows_missing(command, request, chosen)
+        missing = weights_and_rows(command, request, chosen)[1]
         rows = rows + missing
     return spent, rounds, sum(weights[edge] for edge in chosen)
 
@@ -92,10 +90,10 @@ def solve(rows, folder, command):
         request = os.path.join(folder, f"{row['number']}.request")
         limit = LIMITS[row["set"]]
         for name, solver in zip(SOLVERS, (glpsol, cbc)):
-            if int(row["open"]) == 0:
+            if row["open"] == "0":
                 continue
-            row[name], row[name + " rounds"], weight = in_rounds(solver, command, request, folder, limit)
-            row[name + " stopped"] = weight is None
+            took, row[name + " rounds"], weight = in_rounds(solver, command, request, folder, limit)
+            row[name + " ns"], row[name + " stopped"] = round(took), int(weight is None)
             if weight is None:
                 continue
             row["weight"] = row["weight"] or weight  # of a cut that the library did not find in time
@@ -103,9 +101,29 @@ def solve(rows, folder, command):
                 sys.exit(f"instance {row['number']}: {name} finds weight {weight}, not {row['weight']}")
 
 
-def trivial(folder):
+def starts(folder):
     """What a solver takes for next to nothing: starting the process and reading a file of a few lines."""
     program, answer = os.path.join(folder, "trivial.lp"), os.path.join(folder, "answer")
     edges = write_program(program, [1], [["0"]])
     took = lambda solver: solver(program, edges, answer, 60)[0]
-    return {solver.__name__: statistics.median(took(solver) for _ in range(9)) for solver in (glpsol, cbc)}
+    return {f"{solver.__name__} start ns": round(statistics.median(took(solver) for _ in range(9)))
+            for solver in (glpsol, cbc)}
+
+
+def main():
+    results, folder, out_path = sys.argv[1:4]
+    command = sys.argv[4:]
+    with open(results, newline="") as lines:
+        reader = csv.DictReader(lines)
+        rows, columns = list(reader), reader.fieldnames
+    solve([row for row in rows if row["set"] in LIMITS], folder, command)
+    columns += [f"{name} {what}" for name in SOLVERS for what in ("ns", "rounds", "stopped")]
+    same = {"machine": platform.machine(), "emulator": command[0] if len(command) > 1 else "", **starts(folder)}
+    with open(out_path, "w", newline="") as out:
+        writer = csv.DictWriter(out, [*columns, *same], lineterminator="\n")
+        writer.writeheader()
+        writer.writerows({**row, **same} for row in rows)
+
+
+if __name__ == "__main__":
+    main()
