@@ -1,101 +1,95 @@
-// Reading a request in one pass to count the records and one for each kind to judge them.
+// Reading a request: its lists, judged one kind after the other.
+#include "fence_request.hpp"
 #include "plain.hpp"
 
 namespace plain {
 namespace {
 
-unsigned two(const std::uint8_t *at) { return at[0] + 256u * at[1]; }
+using fence::Kind;
 
-// Counts the records of one mark from `at` on, and moves `at` behind them.
-unsigned count(const std::uint8_t *file, std::size_t length, const char *mark, std::size_t size, std::size_t &at) {
-    unsigned records = 0;
-    for (; at + size <= length && file[at] == mark[0] && file[at + 1] == mark[1]; at += size) ++records;
-    return records;
+bool bad_node(const fence::Node &n) {
+    return n.kind > Kind::full_fence || (n.kind == Kind::full_fence && n.address != 0);
 }
-
-bool bad_node(const std::uint8_t *r) { return r[2] > 2 || (r[2] == 2 && r[3] != 0); }
 
 // For each node the nodes that an edge or order leads to already.
 using Rows = std::vector<Nodes>;
 
-bool bad_edge(const std::uint8_t *r, Rows &rows) {
-    const unsigned from = two(r + 2), to = two(r + 4);
-    if (from >= rows.size() || to >= rows.size() || two(r + 6) == 0 || rows[from][to]) return true;
+bool bad_pair(unsigned from, unsigned to, Rows &rows) {
+    if (from >= rows.size() || to >= rows.size() || rows[from][to]) return true;
     rows[from].set(to);
     return false;
 }
 
-bool bad_order(const std::uint8_t *r, Rows &rows) {
-    const unsigned first = two(r + 2), second = two(r + 4);
-    if (first >= rows.size() || second >= rows.size() || first == second || rows[first][second]) return true;
-    rows[first].set(second);
-    return false;
+bool bad_edge(const fence::Edge &e, Rows &rows) { return e.weight == 0 || bad_pair(e.from, e.to, rows); }
+
+bool bad_order(const fence::Order &o, Rows &rows) {
+    return o.first == o.second || bad_pair(o.first, o.second, rows);
 }
 
-bool bad_rule(const std::uint8_t *r) {
-    if (r[2] > 3 || r[4] > 3) return true;
-    const bool left = r[2] < 2, right = r[4] < 2;
-    if (r[3] != (left ? 1 : 0)) return true;
-    if (!right) return r[5] != 0;
-    return r[5] != 1 && !(left && r[5] == 2);
+bool bad_rule(const fence::Rule &r) {
+    if (r.left.kind > Kind::any || r.right.kind > Kind::any) return true;
+    const bool left = r.left.kind < Kind::full_fence, right = r.right.kind < Kind::full_fence;
+    if (r.left.variable != (left ? 1 : 0)) return true;
+    if (!right) return r.right.variable != 0;
+    return r.right.variable != 1 && !(left && r.right.variable == 2);
 }
 
-struct Counts {
-    unsigned nodes, edges, rules, orders;
-};
-
-Refusal too_many(const Counts &c) {
-    if (c.nodes > most_nodes) return {2, most_nodes};
-    if (c.edges > most_edges) return {2, c.nodes + most_edges};
-    if (c.rules > most_rules) return {2, c.nodes + c.edges + most_rules};
-    if (c.orders > most_orders) return {2, c.nodes + c.edges + c.rules + most_orders};
+Refusal too_many(const fence::Request &r) {
+    const std::size_t edges = r.nodes.size(), rules = edges + r.edges.size(), orders = rules + r.rules.size();
+    if (r.nodes.size() > most_nodes) return {2, most_nodes};
+    if (r.edges.size() > most_edges) return {2, edges + most_edges};
+    if (r.rules.size() > most_rules) return {2, rules + most_rules};
+    if (r.orders.size() > most_orders) return {2, orders + most_orders};
     return {0, 0};
 }
 
-Refusal judge(const std::uint8_t *file, const Counts &c) {
-    const std::uint8_t *at = file;
-    Rows edge_rows(c.nodes), order_rows(c.nodes);
-    std::uint64_t record = 0;
-    bool to_fence = false, from_fence = false;
-    for (unsigned i = 0; i < c.nodes; ++i, ++record, at += 4)
-        if (bad_node(at)) return {3, record};
-    for (unsigned i = 0; i < c.edges; ++i, ++record, at += 8)
-        if (bad_edge(at, edge_rows)) return {4, record};
-    for (unsigned i = 0; i < c.rules; ++i, ++record, at += 6) {
-        if (bad_rule(at)) return {5, record};
-        to_fence |= at[2] == 3 && at[4] == 2;
-        from_fence |= at[2] == 2 && at[4] == 3;
-    }
-    for (unsigned i = 0; i < c.orders; ++i, ++record, at += 6)
-        if (bad_order(at, order_rows)) return {6, record};
-    return {to_fence && from_fence ? 0u : 7u, 0};
+bool has_rule(const fence::Request &r, Kind left, Kind right) {
+    for (const fence::Rule &rule : r.rules)
+        if (rule.left.kind == left && rule.right.kind == right) return true;
+    return false;
 }
 
-void decode(const std::uint8_t *at, const Counts &c, Graph &g) {
-    g.node_count = c.nodes, g.edge_count = c.edges, g.rule_count = c.rules, g.order_count = c.orders;
-    for (unsigned i = 0; i < c.nodes; ++i, at += 4) g.nodes[i] = {at[2], at[3]};
-    for (unsigned i = 0; i < c.edges; ++i, at += 8)
-        g.edges[i] = {static_cast<std::uint16_t>(two(at + 2)), static_cast<std::uint16_t>(two(at + 4)),
-                      static_cast<std::uint16_t>(two(at + 6))};
-    for (unsigned i = 0; i < c.rules; ++i, at += 6) g.rules[i] = {at[2], at[3], at[4], at[5]};
-    for (unsigned i = 0; i < c.orders; ++i, at += 6)
-        g.orders[i] = {static_cast<std::uint16_t>(two(at + 2)), static_cast<std::uint16_t>(two(at + 4))};
+// Counts the records up to the first bad one.
+template <class List, class Bad>
+bool any_bad(const List &list, std::uint64_t &record, Bad bad) {
+    for (const auto &entry : list) {
+        if (bad(entry)) return true;
+        ++record;
+    }
+    return false;
+}
+
+Refusal judge(const fence::Request &r) {
+    Rows edge_rows(r.nodes.size()), order_rows(r.nodes.size());
+    std::uint64_t record = 0;
+    if (any_bad(r.nodes, record, bad_node)) return {3, record};
+    if (any_bad(r.edges, record, [&](const fence::Edge &e) { return bad_edge(e, edge_rows); })) return {4, record};
+    if (any_bad(r.rules, record, bad_rule)) return {5, record};
+    if (any_bad(r.orders, record, [&](const fence::Order &o) { return bad_order(o, order_rows); }))
+        return {6, record};
+    const bool fenced = has_rule(r, Kind::any, Kind::full_fence) && has_rule(r, Kind::full_fence, Kind::any);
+    return {fenced ? 0u : 7u, 0};
+}
+
+std::uint8_t number(Kind kind) { return static_cast<std::uint8_t>(kind); }
+
+void fill(const fence::Request &r, Graph &g) {
+    for (const fence::Node &n : r.nodes) g.nodes[g.node_count++] = {number(n.kind), n.address};
+    for (const fence::Edge &e : r.edges) g.edges[g.edge_count++] = {e.from, e.to, e.weight};
+    for (const fence::Rule &rule : r.rules)
+        g.rules[g.rule_count++] = {number(rule.left.kind), rule.left.variable, number(rule.right.kind),
+                                   rule.right.variable};
+    for (const fence::Order &o : r.orders) g.orders[g.order_count++] = {o.first, o.second};
 }
 
 }  // namespace
 
 Refusal read(const std::uint8_t *file, std::size_t length, Graph &graph) {
-    std::size_t at = 0;
-    Counts counts;
-    counts.nodes = count(file, length, "ND", 4, at);
-    counts.edges = count(file, length, "ED", 8, at);
-    counts.rules = count(file, length, "RU", 6, at);
-    counts.orders = count(file, length, "OR", 6, at);
-    if (at + 2 > length || file[at] != 'E' || file[at + 1] != 'N') return {1, at};
-    if (at + 2 != length) return {1, at + 2};
-    Refusal refusal = too_many(counts);
-    if (refusal.answer == 0) refusal = judge(file, counts);
-    if (refusal.answer == 0) decode(file, counts, graph);
+    const fence::Result<fence::Request> lists = fence::Request::read({file, length});
+    if (!lists) return {lists.refusal().answer, lists.refusal().place};
+    Refusal refusal = too_many(*lists);
+    if (refusal.answer == 0) refusal = judge(*lists);
+    if (refusal.answer == 0) fill(*lists, graph);
     return refusal;
 }
 
