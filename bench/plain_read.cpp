@@ -56,8 +56,8 @@ Refusal judge(const Graph &g) {
 }
 
 // Records without room are only counted: a file that has such is refused.
-template <class Record, std::size_t room>
-void keep(const Record &record, Record (&list)[room], unsigned &count) {
+template <class Kept, std::size_t room>
+void keep(const Kept &record, Kept (&list)[room], unsigned &count) {
     if (count < room) list[count] = record;
     ++count;
 }
@@ -66,14 +66,14 @@ void keep(const Record &record, Record (&list)[room], unsigned &count) {
 
 // The reader of fence::Request::read without its lists, which would add an eighth to the time of a short run.
 Refusal read(const std::uint8_t *file, std::size_t length, Graph &g) {
-    using namespace fence::detail;
+    using fence::Record;
     g.node_count = g.edge_count = g.rule_count = g.order_count = 0;
-    Reader at({file, length});
-    while (at.next(node_record)) keep({at.byte(0), at.byte(1)}, g.nodes, g.node_count);
-    while (at.next(edge_record)) keep({at.number(0), at.number(1), at.number(2)}, g.edges, g.edge_count);
-    while (at.next(rule_record)) keep({at.byte(0), at.byte(1), at.byte(2), at.byte(3)}, g.rules, g.rule_count);
-    while (at.next(order_record)) keep({at.number(0), at.number(1)}, g.orders, g.order_count);
-    if (!at.next(end_record) || at.end() != length) return {1, at.end()};
+    fence::Reader at({file, length});
+    while (at.next(Record::node)) keep({at.byte(0), at.byte(1)}, g.nodes, g.node_count);
+    while (at.next(Record::edge)) keep({at.number(0), at.number(1), at.number(2)}, g.edges, g.edge_count);
+    while (at.next(Record::rule)) keep({at.byte(0), at.byte(1), at.byte(2), at.byte(3)}, g.rules, g.rule_count);
+    while (at.next(Record::order)) keep({at.number(0), at.number(1)}, g.orders, g.order_count);
+    if (!at.next(Record::end) || at.end() != length) return {1, at.end()};
     const Refusal refusal = too_many(g);
     return refusal.answer == 0 ? judge(g) : refusal;
 }

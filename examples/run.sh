@@ -10,11 +10,12 @@ install_missing "$cxx" dot python3 "${to_run[@]}"
 
 build=target/examples
 mkdir -p "$build"
-for name in queue rebuilds; do
+for name in queue peterson rebuilds; do
     "$cxx" -std=c++17 -O1 -Wall -Wextra -Wpedantic -Werror -Iinclude "examples/$name.cpp" \
         target/staticlib/libfence.a -o "$build/$name"
 done
 "${emulator[@]}" "$build/queue" examples
+"${emulator[@]}" "$build/peterson" "$build"
 "${emulator[@]}" "$build/rebuilds" "$build"
 
 for name in queue_before queue_after; do

@@ -7,8 +7,6 @@
 
 #if __cplusplus >= 201703L
 
-#include <numeric>
-
 namespace fence {
 
 namespace detail {
@@ -23,21 +21,28 @@ struct Case {
     const Request &request() const { return read.request; }
 };
 
-// How many records of each sort the lists have.
-inline std::array<std::size_t, 4> counts(const Request &r) {
-    return {r.nodes.size(), r.edges.size(), r.rules.size(), r.orders.size()};
+inline std::size_t count_of(const Request &r, Record record) {
+    switch (record) {
+        case Record::node: return r.nodes.size();
+        case Record::edge: return r.edges.size();
+        case Record::rule: return r.rules.size();
+        case Record::order: return r.orders.size();
+        default: return 1;
+    }
 }
 
 // The number, over the whole file, that the first record of a sort has.
 inline std::size_t start_of(const Request &r, Record record) {
-    const auto all = counts(r);
-    return std::accumulate(all.begin(), all.begin() + static_cast<std::ptrdiff_t>(record), std::size_t{0});
+    std::size_t start = 0;
+    for (Record before : {Record::node, Record::edge, Record::rule, Record::order})
+        if (before < record) start += count_of(r, before);
+    return start;
 }
 
 // The refused record's number in its list, if the list has it.
 inline std::optional<std::size_t> refused_in(const Case &c, Record record) {
     const std::size_t start = start_of(c.request(), record);
-    if (c.why.place < start || c.why.place - start >= counts(c.request())[record]) return std::nullopt;
+    if (c.why.place < start || c.why.place - start >= count_of(c.request(), record)) return std::nullopt;
     return static_cast<std::size_t>(c.why.place) - start;
 }
 
@@ -56,20 +61,20 @@ inline std::string fields_of(const Order &o) { return words(o.first) + " before 
 // A record by its number in the file, its number in its list and its fields; then what is wrong with it.
 inline std::string said(const Request &r, Record record, std::size_t i, const std::string &fields,
                         const std::string &cause) {
-    return "record " + words(start_of(r, record) + i) + " (" + records[record].word + " " + words(i) + ", " +
+    return "record " + words(start_of(r, record) + i) + " (" + row_of(record).word + " " + words(i) + ", " +
            fields + "): " + cause;
 }
 
 inline std::string said_node(const Request &r, std::size_t i, const std::string &cause) {
-    return said(r, node_record, i, fields_of(r.nodes[i]), cause);
+    return said(r, Record::node, i, fields_of(r.nodes[i]), cause);
 }
 
 inline std::string said_edge(const Request &r, std::size_t i, const std::string &cause) {
-    return said(r, edge_record, i, fields_of(r.edges[i]), cause);
+    return said(r, Record::edge, i, fields_of(r.edges[i]), cause);
 }
 
 inline std::string said_order(const Request &r, std::size_t i, const std::string &cause) {
-    return said(r, order_record, i, fields_of(r.orders[i]), cause);
+    return said(r, Record::order, i, fields_of(r.orders[i]), cause);
 }
 
 inline std::string no_node(const Request &r, std::uint16_t node) {
@@ -101,18 +106,18 @@ inline std::string unreadable(const Case &c) {
     if (c.why.place > c.file.size()) return "";
     const auto at = static_cast<std::size_t>(c.why.place);
     const std::string here = "byte " + words(at) + " of " + words(c.file.size()) + ", record " +
-                             words(start_of(c.request(), end_record) + c.read.ended) + ": ";
+                             words(start_of(c.request(), Record::end) + c.read.ended) + ": ";
     if (at == c.file.size()) return here + "the file ends without EN";
     if (c.read.ended) return here + shown(c.file.data()[at]) + " stands after EN, which ends a file";
     return here + no_record(c.file, at);
 }
 
 inline std::string too_many(const Case &c) {
-    for (Record record : {node_record, edge_record, rule_record, order_record}) {
-        const std::string word = records[record].word;
+    for (Record record : {Record::node, Record::edge, Record::rule, Record::order}) {
+        const std::string word = row_of(record).word;
         if (const auto i = refused_in(c, record))
             return "record " + words(c.why.place) + " (" + word + " " + words(*i) + "): there are " +
-                   words(counts(c.request())[record]) + " " + word + "s, and " + words(records[record].most) +
+                   words(count_of(c.request(), record)) + " " + word + "s, and " + words(row_of(record).most) +
                    " are the most";
     }
     return "";
@@ -129,7 +134,7 @@ inline std::string kinds_allowed(bool KindRow::*where) {
 }
 
 inline std::string bad_node(const Case &c) {
-    const auto i = refused_in(c, node_record);
+    const auto i = refused_in(c, Record::node);
     if (!i) return "";
     const Node &n = c.request().nodes[*i];
     const KindRow *row = row_of(n.kind);
@@ -142,7 +147,7 @@ inline std::string bad_node(const Case &c) {
 
 inline std::string bad_edge(const Case &c) {
     const Request &r = c.request();
-    const auto i = refused_in(c, edge_record);
+    const auto i = refused_in(c, Record::edge);
     if (!i) return "";
     const Edge &e = r.edges[*i];
     const auto cause = [&]() -> std::string {
@@ -169,18 +174,18 @@ inline std::string bad_side(Side side, const std::string &which, unsigned first)
 }
 
 inline std::string bad_rule(const Case &c) {
-    const auto i = refused_in(c, rule_record);
+    const auto i = refused_in(c, Record::rule);
     if (!i) return "";
     const Rule &rule = c.request().rules[*i];
     std::string cause = bad_side(rule.left, "left", 0);
     if (cause.empty()) cause = bad_side(rule.right, "right", rule.left.variable);
     if (cause.empty()) cause = fence_sentence(c.why.answer);
-    return said(c.request(), rule_record, *i, fields_of(rule), cause);
+    return said(c.request(), Record::rule, *i, fields_of(rule), cause);
 }
 
 inline std::string bad_order(const Case &c) {
     const Request &r = c.request();
-    const auto i = refused_in(c, order_record);
+    const auto i = refused_in(c, Record::order);
     if (!i) return "";
     const Order &o = r.orders[*i];
     const auto cause = [&]() -> std::string {
@@ -215,11 +220,11 @@ inline std::string no_order(const Case &c) {
 inline std::string no_room(const Case &c) {
     const std::uint64_t nodes = c.request().nodes.size(), edges = c.request().edges.size();
     const std::uint64_t taken = c.asked && *c.asked <= nodes ? nodes - *c.asked : 0;
-    if (nodes > records[node_record].most || edges > records[edge_record].most || taken > edges) return "";
+    if (nodes > row_of(Record::node).most || edges > row_of(Record::edge).most || taken > edges) return "";
     const std::uint64_t room =
-        std::min(records[node_record].most - (nodes - taken), records[edge_record].most - (edges - taken));
-    return words(nodes - taken) + " nodes of at most " + words(records[node_record].most) + " and " +
-           words(edges - taken) + " edges of at most " + words(records[edge_record].most) + " leave room for " +
+        std::min(row_of(Record::node).most - (nodes - taken), row_of(Record::edge).most - (edges - taken));
+    return words(nodes - taken) + " nodes of at most " + words(row_of(Record::node).most) + " and " +
+           words(edges - taken) + " edges of at most " + words(row_of(Record::edge).most) + " leave room for " +
            words(room) + (room == 1 ? " fence" : " fences") + ", and the orders need more";
 }
 

@@ -30,6 +30,7 @@
 namespace fence {
 
 enum class Kind : std::uint8_t { store = 0, load = 1, full_fence = 2, any = 3 };
+enum class Record { node, edge, rule, order, end };
 
 namespace detail {
 
@@ -51,11 +52,12 @@ struct RecordRow {
     const char *mark, *word;
     std::size_t size, most;
 };
-enum Record : std::size_t { node_record, edge_record, rule_record, order_record, end_record };
 inline constexpr RecordRow records[] = {
     {"ND", "node", 4, 512}, {"ED", "edge", 8, 1024}, {"RU", "rule", 6, 32},
     {"OR", "order", 6, 32}, {"EN", "end", 2, 1},
 };
+
+inline const RecordRow &row_of(Record record) { return records[static_cast<std::size_t>(record)]; }
 
 }  // namespace detail
 
@@ -143,6 +145,34 @@ private:
     std::uint8_t address(const Ref &address);
 };
 
+// A file record by record, for programs with lists of their own. It stops where the library says that the file
+// can't be read; whether a file is a request is for run, ask and strip to say.
+class Reader {
+public:
+    explicit Reader(Bytes file) : file_(file) {}
+
+    // Takes the next record if it is one of these, with all its bytes.
+    bool next(Record record) {
+        const detail::RecordRow &row = detail::row_of(record);
+        const std::uint8_t *at = file_.data() + end_;
+        if (file_.size() - end_ < row.size || at[0] != row.mark[0] || at[1] != row.mark[1]) return false;
+        fields_ = at + 2;
+        end_ += row.size;
+        return true;
+    }
+    std::size_t end() const { return end_; }
+    std::uint8_t byte(int n) const { return fields_[n]; }
+    Kind kind(int n) const { return static_cast<Kind>(fields_[n]); }
+    std::uint16_t number(int n) const {
+        return static_cast<std::uint16_t>(fields_[2 * n] | fields_[2 * n + 1] << 8);
+    }
+
+private:
+    Bytes file_;
+    const std::uint8_t *fields_ = nullptr;
+    std::size_t end_ = 0;
+};
+
 // A fence that run added: its node, and the edge that it stands on, by number and as it was before.
 struct Placed {
     std::uint16_t fence;
@@ -173,37 +203,10 @@ inline std::uint16_t field(std::uint64_t number, std::uint64_t most, const char 
 }
 
 inline void put(std::vector<std::uint8_t> &out, Record record, std::initializer_list<unsigned> fields, int width) {
-    for (int letter : {0, 1}) out.push_back(static_cast<std::uint8_t>(records[record].mark[letter]));
+    for (int letter : {0, 1}) out.push_back(static_cast<std::uint8_t>(row_of(record).mark[letter]));
     for (unsigned field : fields)
         for (int byte = 0; byte < width; ++byte, field >>= 8) out.push_back(static_cast<std::uint8_t>(field & 255));
 }
-
-// Goes through a file record by record. It stops where the library says that it can't be read.
-class Reader {
-public:
-    explicit Reader(Bytes file) : file_(file) {}
-
-    // Takes the next record if it is one of these, with all its bytes.
-    bool next(Record record) {
-        const RecordRow &row = records[record];
-        const std::uint8_t *at = file_.data() + end_;
-        if (file_.size() - end_ < row.size || at[0] != row.mark[0] || at[1] != row.mark[1]) return false;
-        fields_ = at + 2;
-        end_ += row.size;
-        return true;
-    }
-    std::size_t end() const { return end_; }
-    std::uint8_t byte(int n) const { return fields_[n]; }
-    Kind kind(int n) const { return static_cast<Kind>(fields_[n]); }
-    std::uint16_t number(int n) const {
-        return static_cast<std::uint16_t>(fields_[2 * n] | fields_[2 * n + 1] << 8);
-    }
-
-private:
-    Bytes file_;
-    const std::uint8_t *fields_ = nullptr;
-    std::size_t end_ = 0;
-};
 
 // As much of a file as can be read: its lists, where they end, and whether EN ended them.
 struct Reading {
@@ -216,11 +219,11 @@ inline Reading reading(Bytes file) {
     Request r;
     r.rules.clear();
     Reader at(file);
-    while (at.next(node_record)) r.nodes.push_back({at.kind(0), at.byte(1)});
-    while (at.next(edge_record)) r.edges.push_back({at.number(0), at.number(1), at.number(2)});
-    while (at.next(rule_record)) r.rules.push_back({{at.kind(0), at.byte(1)}, {at.kind(2), at.byte(3)}});
-    while (at.next(order_record)) r.orders.push_back({at.number(0), at.number(1)});
-    const bool ended = at.next(end_record);
+    while (at.next(Record::node)) r.nodes.push_back({at.kind(0), at.byte(1)});
+    while (at.next(Record::edge)) r.edges.push_back({at.number(0), at.number(1), at.number(2)});
+    while (at.next(Record::rule)) r.rules.push_back({{at.kind(0), at.byte(1)}, {at.kind(2), at.byte(3)}});
+    while (at.next(Record::order)) r.orders.push_back({at.number(0), at.number(1)});
+    const bool ended = at.next(Record::end);
     return {std::move(r), at.end(), ended};
 }
 
@@ -301,13 +304,13 @@ inline std::uint8_t Request::address(const Ref &address) {
 inline std::vector<std::uint8_t> Request::bytes() const {
     std::vector<std::uint8_t> out;
     const auto number = [](Kind kind) { return static_cast<unsigned>(kind); };
-    for (const Node &n : nodes) detail::put(out, detail::node_record, {number(n.kind), n.address}, 1);
-    for (const Edge &e : edges) detail::put(out, detail::edge_record, {e.from, e.to, e.weight}, 2);
+    for (const Node &n : nodes) detail::put(out, Record::node, {number(n.kind), n.address}, 1);
+    for (const Edge &e : edges) detail::put(out, Record::edge, {e.from, e.to, e.weight}, 2);
     for (const Rule &r : rules)
-        detail::put(out, detail::rule_record,
+        detail::put(out, Record::rule,
                     {number(r.left.kind), r.left.variable, number(r.right.kind), r.right.variable}, 1);
-    for (const Order &o : orders) detail::put(out, detail::order_record, {o.first, o.second}, 2);
-    detail::put(out, detail::end_record, {}, 0);
+    for (const Order &o : orders) detail::put(out, Record::order, {o.first, o.second}, 2);
+    detail::put(out, Record::end, {}, 0);
     return out;
 }
 
