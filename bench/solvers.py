@@ -83,15 +83,24 @@ def in_rounds(solver, command, request, folder, limit):
     return spent, rounds, sum(weights[edge] for edge in chosen)
 
 
+def start(solver, folder):
+    """What a solver takes for next to nothing: starting the process and reading a file of a few lines."""
+    program, answer = os.path.join(folder, "trivial.lp"), os.path.join(folder, "answer")
+    return solver(program, write_program(program, [1], [["0"]]), answer, 60)[0]
+
+
 def solve(rows, folder, command):
     """Adds each solver's time and rounds to the rows, and whether it was stopped. Another weight than ours ends the
-    run. `command` starts the program that finds the routes."""
+    run. `command` starts the program that finds the routes. Gives the solvers' starts, one timed beside each file, so
+    that what else the machine does falls on both."""
+    starts = {name: [] for name in SOLVERS}
     for row in rows:
         request = os.path.join(folder, f"{row['number']}.request")
         limit = LIMITS[row["set"]]
         for name, solver in zip(SOLVERS, (glpsol, cbc)):
             if row["open"] == "0":
                 continue
+            starts[name].append(start(solver, folder))
             took, row[name + " rounds"], weight = in_rounds(solver, command, request, folder, limit)
             row[name + " ns"], row[name + " stopped"] = round(took), int(weight is None)
             if weight is None:
@@ -99,15 +108,7 @@ def solve(rows, folder, command):
             row["weight"] = row["weight"] or weight  # of a cut that the library did not find in time
             if weight != int(row["weight"]):
                 sys.exit(f"instance {row['number']}: {name} finds weight {weight}, not {row['weight']}")
-
-
-def starts(folder):
-    """What a solver takes for next to nothing: starting the process and reading a file of a few lines."""
-    program, answer = os.path.join(folder, "trivial.lp"), os.path.join(folder, "answer")
-    edges = write_program(program, [1], [["0"]])
-    took = lambda solver: solver(program, edges, answer, 60)[0]
-    return {f"{solver.__name__} start ns": round(statistics.median(took(solver) for _ in range(9)))
-            for solver in (glpsol, cbc)}
+    return {f"{name} start ns": round(statistics.median(times)) for name, times in starts.items()}
 
 
 def main():
@@ -116,9 +117,9 @@ def main():
     with open(results, newline="") as lines:
         reader = csv.DictReader(lines)
         rows, columns = list(reader), reader.fieldnames
-    solve([row for row in rows if row["set"] in LIMITS], folder, command)
+    starts = solve([row for row in rows if row["set"] in LIMITS], folder, command)
     columns += [f"{name} {what}" for name in SOLVERS for what in ("ns", "rounds", "stopped")]
-    same = {"machine": platform.machine(), "emulator": command[0] if len(command) > 1 else "", **starts(folder)}
+    same = {"machine": platform.machine(), "emulator": command[0] if len(command) > 1 else "", **starts}
     with open(out_path, "w", newline="") as out:
         writer = csv.DictWriter(out, [*columns, *same], lineterminator="\n")
         writer.writeheader()
