@@ -100,6 +100,12 @@ TEST_CASE("rerun takes off what an order brought that has gone, run keeps it") {
     CHECK(fence::rerun(written(line(512)), 512).refusal().answer == 9);
 }
 
+TEST_CASE("the version's text has its numbers") {
+    CHECK(std::string(FENCE_VERSION) == std::to_string(FENCE_VERSION_MAJOR) + "." +
+                                            std::to_string(FENCE_VERSION_MINOR) + "." +
+                                            std::to_string(FENCE_VERSION_PATCH));
+}
+
 TEST_CASE("no buffer of the face is ever too short") {
     CHECK(fence::run(written(line(511))));
     CHECK(fence::ask(written(line(512)), 0)->route.size() == 512);
