@@ -87,6 +87,19 @@ inline std::string shown(std::uint8_t byte) {
     return {'0', 'x', digits[byte >> 4], digits[byte & 15]};
 }
 
+// A list in words, with this before the last of them.
+inline std::string joined(const std::vector<std::string> &all, const std::string &before_last) {
+    std::string list = all[0];
+    for (std::size_t i = 1; i < all.size(); ++i) list += (i + 1 < all.size() ? ", " : before_last) + all[i];
+    return list;
+}
+
+inline std::string all_marks(const std::string &before_last) {
+    std::vector<std::string> all;
+    for (const RecordRow &row : records) all.push_back(row.mark);
+    return joined(all, before_last);
+}
+
 // Why no record can be read at `at`, where one byte at least is left.
 inline std::string no_record(Bytes file, std::size_t at) {
     const std::size_t left = file.size() - at;
@@ -97,9 +110,9 @@ inline std::string no_record(Bytes file, std::size_t at) {
         if (left < row.size)
             return std::string(row.mark) + " is cut short: it has " + words(row.size) + " bytes, and " +
                    words(left) + " are left";
-        return std::string(row.mark) + " stands too late: the marks come as ND, ED, RU, OR, EN";
+        return std::string(row.mark) + " stands too late: the marks come as " + all_marks(", ");
     }
-    return shown(found[0]) + " " + shown(found[1]) + " is no mark: ND, ED, RU, OR and EN are";
+    return shown(found[0]) + " " + shown(found[1]) + " is no mark: " + all_marks(" and ") + " are";
 }
 
 inline std::string unreadable(const Case &c) {
@@ -128,9 +141,7 @@ inline std::string kinds_allowed(bool KindRow::*where) {
     std::vector<std::string> all;
     for (const KindRow &row : kinds)
         if (row.*where) all.push_back(words(row.kind) + " (" + row.word + ")");
-    std::string list = all[0];
-    for (std::size_t i = 1; i < all.size(); ++i) list += (i + 1 < all.size() ? ", " : " or ") + all[i];
-    return list;
+    return joined(all, " or ");
 }
 
 inline std::string bad_node(const Case &c) {
