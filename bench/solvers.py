@@ -100,6 +100,7 @@ def solve(rows, folder, command):
         for name, solver in zip(SOLVERS, (glpsol, cbc)):
             if row["open"] == "0":
                 continue
+            start(solver, folder)  # whatever ran before it, the next two calls find the solver in the caches
             starts[name].append(start(solver, folder))
             took, row[name + " rounds"], weight = in_rounds(solver, command, request, folder, limit)
             row[name + " ns"], row[name + " stopped"] = round(took), int(weight is None)
