@@ -76,6 +76,8 @@
  *    9  run: with the fences there would be over 512 nodes or over 1,024 edges  0
  *   10  strip: fewer nodes than the count, or one that must stay (see there)    0
  *   11  the lent buffer is too short (ask: below 512 entries)                   0
+ *
+ * fence_sentence says an answer in words. In C++ fence_request.hpp names the record, the field and the value too.
  */
 #ifndef FENCE_H
 #define FENCE_H
