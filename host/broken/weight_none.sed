@@ -1,3 +1,3 @@
 # file: plain_read.cpp
 # Weight 0 passes, and with it what was a refusal.
-s/ || two(r + 6) == 0//
+s/e\.weight == 0 || //
