@@ -1,4 +1,6 @@
 // Ask over the graph of an accepted file.
+#![tactic(auto)]
+
 ghost use Rattle.std.specs.Prelude.{List, ◌++◌, ◌≡◌, ℕ, ◌≤◌, length, take, drop};
 ghost use Rattle.graph.specs.Limits.{most_nodes};
 ghost use Rattle.outcome.specs.Outcome.{AskOutcome};

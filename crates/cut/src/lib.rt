@@ -1,4 +1,6 @@
 // The chosen cut of a graph: its open orders, near ones first, handed to the search for the lightest.
+#![tactic(auto)]
+
 ghost use Rattle.std.specs.Prelude.{length};
 ghost use Rattle.graph.specs.Graph.{Sound, Orderly};
 ghost use Rattle.graph.specs.Value.{graph_of, orders_of, Sized};

@@ -6,7 +6,7 @@ ghost use Rattle.cut.specs.Given.{Copied};
 use graph::{Edge, Graph};
 
 // The ends and the weights of the edges, a list for each.
-#[derive(Drop)]
+#[derive(Clone, Copy)]
 pub struct Lists {
     pub from: [u16; Graph::EDGES],
     pub to: [u16; Graph::EDGES],

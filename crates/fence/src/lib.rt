@@ -1,4 +1,6 @@
 // The public operations: run, ask and strip over files, for C to call.
+#![tactic(auto)]
+
 ghost use Rattle.outcome.specs.Outcome.{RunOutcome, AskOutcome, StripOutcome};
 
 use outcome::{Report, Shown, refused, unshown};

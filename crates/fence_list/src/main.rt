@@ -1,4 +1,6 @@
 // fence-list: reads a request on standard input, and prints run's numbers and a line for each fence.
+#![tactic(auto)]
+
 ghost use Rattle.std.specs.Prelude.{◌≤◌};
 ghost use Rattle.graph.specs.Limits.{most_edges};
 

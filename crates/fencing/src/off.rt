@@ -11,7 +11,7 @@ ghost use Rattle.graph.specs.Scan.{FirstFrom};
 use graph::{Edge, Graph, Label, Order};
 
 // What is left of a graph, and the weights of the pairs rejoined.
-#[derive(Drop)]
+#[derive(Clone, Copy)]
 pub struct Left {
     pub graph: Graph,
     pub weight: u64,

@@ -1,4 +1,6 @@
 // A graph of stores, loads and fences, with its rules and its orders.
+#![tactic(auto)]
+
 ghost use Rattle.std.specs.Prelude.{◌≡◌, [], ◌≤◌, take};
 ghost use Rattle.graph.specs.Tests.{want_of, fit_of, ruledb};
 ghost use Rattle.graph.specs.Graph.{no_graph};
@@ -6,7 +8,7 @@ ghost use Rattle.graph.specs.Limits.{most_rules};
 ghost use Rattle.graph.specs.Value.{graph_of, rules_of, orders_of, Sized, Roomy};
 
 // What a node does, and to which address; in a rule's side the number is a variable.
-#[derive(Drop)]
+#[derive(Clone, Copy)]
 pub enum Label {
     Store(u8),
     Load(u8),
@@ -14,38 +16,38 @@ pub enum Label {
 }
 
 // A rule's side: the wildcard, or a label whose address is a variable.
-#[derive(Drop)]
+#[derive(Clone, Copy)]
 pub enum Side {
     Any,
     Is(Label),
 }
 
-#[derive(Drop)]
+#[derive(Clone, Copy)]
 pub struct Rule {
     pub left: Side,
     pub right: Side,
 }
 
-#[derive(Drop)]
+#[derive(Clone, Copy)]
 pub struct Node {
     pub label: Label,
 }
 
-#[derive(Drop)]
+#[derive(Clone, Copy)]
 pub struct Edge {
     pub from: u16,
     pub to: u16,
     pub weight: u16,
 }
 
-#[derive(Drop)]
+#[derive(Clone, Copy)]
 pub struct Order {
     pub first: u16,
     pub second: u16,
 }
 
 // The first of each array, as many as its count says, are the graph's.
-#[derive(Drop)]
+#[derive(Clone, Copy)]
 pub struct Graph {
     pub nodes: [Node; Graph::NODES],
     pub node_count: usize,
@@ -95,7 +97,7 @@ impl Graph {
 }
 
 // What a side wants of a label: it never matches, it matches freely, or a variable has to have an address.
-#[derive(Drop)]
+#[derive(Clone, Copy)]
 pub enum Want {
     Never,
     Free,

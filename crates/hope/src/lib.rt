@@ -1,4 +1,6 @@
 // Whether a route may yet go on and leave its ends unordered.
+#![tactic(auto)]
+
 pub mod pairs;
 
 ghost use Rattle.std.specs.Prelude.{◌≡◌, true, false, List, ℕ, ◌<◌, ◌≤◌};

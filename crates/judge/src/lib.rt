@@ -1,4 +1,6 @@
 // The test of a route that is proposed by its edges.
+#![tactic(auto)]
+
 ghost use Rattle.std.specs.Prelude.{true, List, ◌≡◌, ℕ, ◌<◌, ◌≤◌, length, get_or};
 ghost use Rattle.graph.specs.Limits.{most_nodes};
 ghost use Rattle.route.specs.Way.{Net, Remains};

@@ -1,4 +1,6 @@
 // The lightest set of edges that keeps pairs of nodes apart, and of those the one whose rising list of edge numbers comes first.
+#![tactic(auto)]
+
 ghost use Rattle.std.specs.Prelude.{◌≡◌, true, false, ◌+◌, ◌<◌, set, replicate, pos, ◌-ℤ◌};
 ghost use Rattle.graph.specs.Limits.{most_edges};
 ghost use Rattle.lightest.specs.Made.{edges_of, most_weight};
@@ -10,7 +12,7 @@ mod pack;
 pub mod search;
 
 // A set of edges and its weight.
-#[derive(Drop)]
+#[derive(Clone, Copy)]
 pub struct Cut {
     pub chosen: WideSet,
     pub weight: u32,

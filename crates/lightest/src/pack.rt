@@ -14,13 +14,13 @@ use sets::wide::{WideSet, has};
 use unordered::find_route;
 use words::Sets;
 
-#[derive(Drop)]
+#[derive(Clone, Copy)]
 pub struct Residue {
     pub left: [u16; Graph::EDGES],
 }
 
 // A lower bound: routes that must be met, with amounts. The first of them, the sum of the amounts, and what is left of each weight.
-#[derive(Drop)]
+#[derive(Clone, Copy)]
 pub struct Packing {
     pub route: EdgeRoute,
     pub left: [u16; Graph::EDGES],

@@ -17,7 +17,7 @@ use words::Sets;
 const ABOVE: u32 = Graph::EDGES as u32 * 65535 + 1;
 
 // What a level of the search keeps of a bound: the edges of the route to branch on, how many they are, and the sum.
-#[derive(Drop)]
+#[derive(Clone, Copy)]
 pub struct Level {
     pub route: WideSet,
     pub len: usize,

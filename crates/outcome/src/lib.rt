@@ -1,4 +1,6 @@
 // What the public operations return, and a refusal as numbers.
+#![tactic(auto)]
+
 ghost use Rattle.std.specs.Prelude.{◌≡◌};
 ghost use Rattle.request.specs.Answers.{number};
 ghost use Rattle.outcome.specs.Outcome.{refusal};
@@ -7,7 +9,7 @@ use request::{Answer, number};
 
 // What run and strip return.
 #[repr(C)]
-#[derive(Drop)]
+#[derive(Clone, Copy)]
 pub struct Report {
     pub answer: u64,
     pub place: u64,
@@ -18,7 +20,7 @@ pub struct Report {
 
 // What ask returns.
 #[repr(C)]
-#[derive(Drop)]
+#[derive(Clone, Copy)]
 pub struct Shown {
     pub answer: u64,
     pub place: u64,

@@ -1,4 +1,6 @@
 // A request: its file's reading, the answers that refuse it, and its graph by value.
+#![tactic(auto)]
+
 mod bad;
 mod checks;
 mod layout;
@@ -15,7 +17,7 @@ ghost use Rattle.request.specs.Proper.{Reads};
 use graph::Graph;
 
 // How many records of each mark a file has.
-#[derive(Drop)]
+#[derive(Clone, Copy)]
 pub struct Counts {
     pub nodes: usize,
     pub edges: usize,
@@ -24,7 +26,7 @@ pub struct Counts {
 }
 
 // The marks of the records, in the order of the file.
-#[derive(Drop)]
+#[derive(Clone, Copy)]
 pub enum Mark {
     Nd,
     Ed,
@@ -33,7 +35,7 @@ pub enum Mark {
 }
 
 // A check of the records: too many of a mark, a wrong one of it, a fence rule missing.
-#[derive(Drop)]
+#[derive(Clone, Copy)]
 pub enum Check {
     Many(Mark),
     Wrong(Mark),
@@ -41,7 +43,7 @@ pub enum Check {
 }
 
 // The refusals of document 01's table, in its order.
-#[derive(Drop)]
+#[derive(Clone, Copy)]
 pub enum Answer {
     Unreadable,
     TooMany,
@@ -57,7 +59,7 @@ pub enum Answer {
 }
 
 // A file is a whole request, or it is refused with an answer and its place.
-#[derive(Drop)]
+#[derive(Clone, Copy)]
 pub enum Reading {
     Whole(Counts),
     Refused(Answer, usize),

@@ -1,4 +1,6 @@
 // Finds a route with the fewest edges, node by node from its end.
+#![tactic(auto)]
+
 ghost use Rattle.std.specs.Prelude.{false, ◌≢◌, ◌≡◌, ℕ, ◌+◌, ◌<◌, ◌≤◌, length, get_or};
 ghost use Rattle.graph.specs.Limits.{most_nodes, most_edges};
 ghost use Rattle.route.specs.Way.{Net, EdgeLists, Sealed, Found};
@@ -9,13 +11,13 @@ use graph::Graph;
 // The edges at each node, as lists: an entry for each node has the first of them, and after these an entry for each edge has the next one at
 // its node. The number of edges says that there is none. Given where edges end these are the ones that lead to a node, given where they start
 // the ones that leave it.
-#[derive(Drop)]
+#[derive(Clone, Copy)]
 pub struct Links {
     pub entries: [u16; Graph::NODES + Graph::EDGES],
 }
 
 // The edges of a route by their numbers, in order; none where len is 0.
-#[derive(Drop)]
+#[derive(Clone, Copy)]
 pub struct EdgeRoute {
     pub edges: [u16; Graph::NODES],
     pub len: usize,

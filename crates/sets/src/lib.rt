@@ -1,4 +1,6 @@
 // A set of numbers below 512, as several words: number k is in it where flag k % 64 of word k / 64 is set.
+#![tactic(auto)]
+
 pub mod wide;
 
 ghost use Rattle.std.specs.Prelude.{◌≡◌, ◌<◌, ◌≤◌, length};

@@ -1,4 +1,6 @@
 // One step of a route: what is ordered after the first once the route has gone on to a node.
+#![tactic(auto)]
+
 ghost use Rattle.std.specs.Prelude.{◌≡◌, ◌<◌};
 ghost use Rattle.graph.specs.Limits.{most_nodes};
 ghost use Rattle.sets.specs.Whole.{whole, rows};

@@ -1,4 +1,6 @@
 // Strip over the graph of an accepted file: all is decided before the first byte is written.
+#![tactic(auto)]
+
 ghost use Rattle.std.specs.Prelude.{List, ℕ};
 ghost use Rattle.outcome.specs.Outcome.{StripOutcome};
 ghost use Rattle.request.specs.Value.{Ready, request_in};

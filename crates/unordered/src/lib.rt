@@ -1,4 +1,6 @@
 // Finds the edges of a route that does not order its ends, of the edges that are left.
+#![tactic(auto)]
+
 pub mod pairs;
 
 ghost use Rattle.std.specs.Prelude.{◌≢◌, ◌≡◌, ◌<◌, length};

@@ -1,4 +1,6 @@
 // The walk along the routes of a graph, for the first one that does not order its ends.
+#![tactic(auto)]
+
 ghost use Rattle.std.specs.Prelude.{◌≡◌, false, ◌<◌, ◌≤◌, length, take};
 ghost use Rattle.flags.specs.Flag.{flag};
 ghost use Rattle.graph.specs.Graph.{Sound, Orderly};
@@ -19,7 +21,7 @@ use step::mark_on;
 use words::{Sets, succ_of};
 
 // A route: the first len entries of nodes. Where there is none len is 0.
-#[derive(Drop)]
+#[derive(Clone, Copy)]
 pub struct NodeRoute {
     pub len: usize,
     pub nodes: [u16; Graph::NODES],

@@ -1,4 +1,6 @@
 // The edges of a route that does not order its ends, by the walk.
+#![tactic(auto)]
+
 ghost use Rattle.std.specs.Prelude.{◌≡◌, ◌<◌, length};
 ghost use Rattle.graph.specs.Limits.{most_nodes};
 ghost use Rattle.route.specs.Way.{Net, EdgeLists, Remains};

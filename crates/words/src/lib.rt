@@ -1,4 +1,6 @@
 // The sets of a graph, that the walk goes by.
+#![tactic(auto)]
+
 ghost use Rattle.std.specs.Prelude.{◌≡◌, true, ◌&&◌, ◌↔◌, ℕ, ◌≤◌, ltb, length, take};
 ghost use Rattle.flags.specs.Flag.{flag};
 ghost use Rattle.graph.specs.Tests.{want_of};

@@ -1,4 +1,6 @@
 // A whole request written: records of one mark after the other, then EN.
+#![tactic(auto)]
+
 mod put;
 
 ghost use Rattle.std.specs.Prelude.{◌≡◌, ◌+◌, ◌*◌, ◌<◌, ◌≤◌, length, take};
