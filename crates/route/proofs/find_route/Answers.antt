@@ -12,12 +12,12 @@ pub returns-then-not-ends_left : goal.returns-then-not-ends_left
 returns-then-not-ends_left c =
     let none_left = c.ends_left.ensures c.if-not-ends_left.true in (
       c.requires.out_len,
-      none_found (λ es w. c.requires.a_lt_most_nodes.2 (way_sealed _ _ c.args.left.now _ c.requires.net.0.both none_left _ es w)),
+      none_found (λ es w. c.requires.ends.2 (way_sealed _ _ c.args.left.now _ c.requires.net.0.both none_left _ es w)),
     )
 
 pub loop-i-init : goal.loop-i-init
 loop-i-init c =
-    let p = c.requires.a_lt_most_nodes in
+    let p = c.requires.ends in
     (spread_start _ _ c.args.out.now _ p.1 refl refl c.requires.out_len refl, start_far _ _ _ refl p.0 p.2)
 
 pub bounds-out-count : goal.bounds-out-count
