@@ -1,3 +1,5 @@
+use Rattle.std.proofs.Common.{ℕ, List}
+use Rattle.hope.proofs.Sifted.{Lookout}
 use Prim.Native.Nat.{◌-◌}
 use lib.Count.{ones}
 use Rattle.graph.specs.Limits.{most_nodes}
@@ -5,6 +7,10 @@ use Rattle.sets.specs.Whole.{whole, rows}
 use Rattle.hope.specs.Hope.{most_pairs}
 use Rattle.hope.proofs.Sifted.{Sifted, Passing}
 use Rattle.hope.proofs.pairs.some_way.Given as goal
+
+-- where the ways on are looked for
+abbrev pub lookout : List (List ℕ) → List (List ℕ) → ℕ → List ℕ → List ℕ → ℕ → Lookout
+lookout succ fits goal visited after v = record { succ = rows succ; fits = rows fits; goal = goal; visited = whole visited; after = whole after; v = v }
 
 abbrev pub invariant-loop-next : goal.invariant-loop-next
 invariant-loop-next l =
