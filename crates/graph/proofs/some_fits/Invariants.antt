@@ -3,7 +3,6 @@ use mathlib.Core.Path.{◌≡◌}
 use mathlib.Core.Bool.{false}
 use lib.ListN.{take}
 use Rattle.graph.specs.Tests.{ruledb}
-use borrow.Author.Rules.{rules}
 use Rattle.graph.proofs.some_fits.Given as goal
 
 abbrev pub invariant-loop-i : goal.invariant-loop-i

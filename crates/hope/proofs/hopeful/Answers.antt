@@ -1,6 +1,6 @@
 -- `hope::hopeful` meets its contract: node by node; the rows only fall, and bound every way on.
 use Rattle.std.proofs.Common.{rules, arith, ℕ, sym, ap, ◌∙◌}
-use Rattle.sets.specs.Whole.{whole, rows}
+use Rattle.sets.specs.Whole.{rows}
 use Rattle.sets.proofs.Rows.{row_at}
 use Rattle.sets.proofs.Leading.{all_out}
 use Rattle.step.specs.Rest.{mark}

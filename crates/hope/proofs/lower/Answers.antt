@@ -1,5 +1,5 @@
 -- `hope::lower` meets its contract: node by node.
-use Rattle.std.proofs.Common.{rules, arith, ◌≡◌, get_or, [], sym, ◌∙◌}
+use Rattle.std.proofs.Common.{arith, ◌≡◌, get_or, [], sym, ◌∙◌}
 use Rattle.graph.proofs.Splits.{true_false}
 use Rattle.sets.specs.Whole.{whole, rows}
 use Rattle.sets.proofs.Rows.{row_at, rows-set}

@@ -1,18 +1,19 @@
 -- `judge::judged` meets its contract: edge by edge, as long as each goes on from where the one before led to, to a new node.
 -- Assumes nothing.
-use Rattle.std.proofs.Common.{rules, arith, ℕ, ◌≡◌, get_or, sym, ap, ◌∙◌}
+use Rattle.std.proofs.Common.{arith, ℕ, ◌≡◌, get_or, sym, ap, ◌∙◌}
 use borrow.Author.Tests.{not-true}
 use Rattle.flags.specs.Flag.{put}
-use Rattle.sets.specs.Whole.{whole, rows}
+use Rattle.sets.specs.Whole.{rows}
 use Rattle.sets.proofs.Rows.{row_at}
 use Rattle.judge.proofs.Tested.{tested_start, tested_on, tested_end}
 use Rattle.judge.proofs.judged.Goals as goal
 
 pub loop-i-init : goal.loop-i-init
 loop-i-init c =
-    let started = c.with-seen.ensures.0 ∙ ap (λ (w : ℕ). put w c.args.a) c.none.ensures in
-    (omega arith
-    , rw (started, ← (row_at c.args.fits.now c.args.a)) (tested_start c.args.from.now c.args.to.now (rows c.args.fits.now) c.args.edges.now c.args.a))
+    let started = c.with-seen.ensures.0 ∙ ap (λ (w : ℕ). put w c.args.a) c.none.ensures in (
+      omega arith,
+      rw (started, ← (row_at c.args.fits.now c.args.a)) (tested_start c.args.from.now c.args.to.now (rows c.args.fits.now) c.args.edges.now c.args.a),
+    )
 
 pub loop-i-preserved : goal.loop-i-preserved
 loop-i-preserved c =

@@ -1,5 +1,5 @@
 -- `sets::lowest` meets its contract: word by word.
-use Rattle.std.proofs.Common.{rules, arith, List, ℕ, ◌∙◌, sym}
+use Rattle.std.proofs.Common.{rules, arith, ◌∙◌, sym}
 use Rattle.flags.proofs.Least.{lowest_lt}
 use Rattle.sets.proofs.Onward.{word_passed, lowest-at, lowest_all}
 use Rattle.sets.proofs.Words.{fits_small}

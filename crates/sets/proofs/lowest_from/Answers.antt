@@ -1,8 +1,7 @@
 -- `sets::lowest_from` meets its contract: in the word of that number, then word by word.
-use Rattle.std.proofs.Common.{rules, arith, ℕ, List, ◌≡◌, ◌<◌, ◌≤◌, ◌/◌, ◌%◌, ◌^◌, get_or, ◌∙◌, sym, ap, subst}
+use Rattle.std.proofs.Common.{arith, ℕ, List, ◌≡◌, ◌<◌, ◌/◌, ◌%◌, ◌^◌, get_or, ◌∙◌, sym, ap, subst}
 use Rattle.flags.specs.Flag.{lowest, less, above}
-use Rattle.sets.specs.Whole.{whole, Small}
-use Rattle.sets.proofs.Onward.{Passed, passed_word, in_word, ahead_at, ahead_all}
+use Rattle.sets.proofs.Onward.{passed_word, in_word, ahead_at, ahead_all}
 use Rattle.sets.proofs.lowest_from.Goals as goal
 
 -- a turn of the loop: what is left of the word at k
@@ -43,9 +42,10 @@ returns-then-left-ne0 c =
 pub loop-k-preserved : goal.loop-k-preserved
 loop-k-preserved c =
     let a = c.args.a.now in let b = c.args.b.now in
-    let gone = sym (left_is a b c.loop-k.k c.without.ensures c.above-left.ensures) ∙ c.if-left-ne0.false in
-    (omega (arith, c.loop-k.invariant.0)
-    , passed_word a b c.fit.ensures.1 c.fit-2.ensures.1 c.args.from c.loop-k.k c.loop-k.invariant.0 c.loop-k.invariant.1 gone)
+    let gone = sym (left_is a b c.loop-k.k c.without.ensures c.above-left.ensures) ∙ c.if-left-ne0.false in (
+      omega (arith, c.loop-k.invariant.0),
+      passed_word a b c.fit.ensures.1 c.fit-2.ensures.1 c.args.from c.loop-k.k c.loop-k.invariant.0 c.loop-k.invariant.1 gone,
+    )
 
 pub returns : goal.returns
 returns c =

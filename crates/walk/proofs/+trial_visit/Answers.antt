@@ -1,5 +1,5 @@
 -- `walk::visit` and `walk::trial` meet their contracts: each on the other's; a node more is visited each time, and what was lent comes back.
-use Rattle.std.proofs.Common.{rules, arith, ℕ, List, ◌≡◌, ◌-◌, ◌≤◌, ◌<◌, false, [], length, get_or, refl, sym, ap, ◌∙◌}
+use Rattle.std.proofs.Common.{arith, ℕ, List, ◌≡◌, ◌-◌, ◌≤◌, false, [], length, get_or, sym, ◌∙◌}
 use Rattle.std.specs.Int.Count.{ones}
 use lib.ListN.{length-set}
 use Rattle.flags.specs.Flag.{flag, put}
@@ -35,9 +35,10 @@ trial-returns-then-lost t c =
 
 pub trial-loop-goal-preserved : goal.trial-loop-goal-preserved
 trial-loop-goal-preserved t c =
-    let inv = c.loop-goal.invariant in
-    (back_then inv.0 (back_as c.if-visit.false c.visit.ensures.back)
-    , not_taken (low c.args.succ.now c.args.v c.lowest_from-k.ensures) inv.1 c.visit.ensures c.if-visit.false)
+    let inv = c.loop-goal.invariant in (
+      back_then inv.0 (back_as c.if-visit.false c.visit.ensures.back),
+      not_taken (low c.args.succ.now c.args.v c.lowest_from-k.ensures) inv.1 c.visit.ensures c.if-visit.false,
+    )
 
 -- the route has one node more now, and there was room for it
 entered : {visited v more n : ℕ} (nodes : List ℕ) → flag visited v ≡ false → length nodes ≡ most_nodes

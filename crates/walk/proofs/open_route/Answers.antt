@@ -1,7 +1,6 @@
 -- `walk::open_route` meets its contract: the walk from the order's first node.
 use Rattle.std.proofs.Common.{ℕ, refl, sym, ap, ◌∙◌}
 use Rattle.flags.specs.Flag.{put}
-use Rattle.sets.specs.Whole.{whole, rows}
 use Rattle.sets.proofs.Rows.{row_at}
 use Rattle.walk.proofs.First.{none_shown, one_shown}
 use Rattle.walk.proofs.open_route.Goals as goal

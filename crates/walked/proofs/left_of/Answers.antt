@@ -1,5 +1,5 @@
 -- `walked::left_of` meets its contract: edge by edge.
-use Rattle.std.proofs.Common.{rules, arith, ◌<◌, length, refl, ◌∙◌}
+use Rattle.std.proofs.Common.{arith, ◌<◌, length, refl, ◌∙◌}
 use mathlib.Core.Path.{subst⁻¹}
 use lib.ListN.{length-set}
 use Rattle.graph.specs.Limits.{most_nodes}

@@ -1,5 +1,5 @@
 -- `walked::named` meets its contract: edge by edge.
-use Rattle.std.proofs.Common.{rules, arith, ◌<◌, length, ◌∙◌}
+use Rattle.std.proofs.Common.{arith, ◌<◌, length, ◌∙◌}
 use lib.ListN.{length-set}
 use Rattle.walked.proofs.Edges.{goes_at, named_more}
 use Rattle.walked.proofs.named.Goals as goal

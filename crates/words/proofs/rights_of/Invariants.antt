@@ -4,7 +4,6 @@ use lib.ListN.{length}
 use Rattle.graph.specs.Limits.{most_rules}
 use Rattle.sets.specs.Whole.{rows}
 use Rattle.words.specs.Rows.{Rights}
-use borrow.Author.Rules.{rules}
 use Rattle.words.proofs.rights_of.Given as goal
 
 abbrev pub invariant-loop-i : goal.invariant-loop-i

@@ -1,7 +1,6 @@
 use Prim.Native.Nat.{◌-◌, ◌≤◌}
 use Rattle.sets.specs.Whole.{whole, rows}
 use Rattle.words.specs.Rows.{RowOf}
-use borrow.Author.Rules.{rules}
 use Rattle.words.proofs.row_of.Given as goal
 
 abbrev pub invariant-loop-i : goal.invariant-loop-i

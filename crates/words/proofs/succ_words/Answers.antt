@@ -1,5 +1,5 @@
 -- `words::succ_words` meets its contract: edge by edge.
-use Rattle.std.proofs.Common.{rules, arith, ◌≡◌, ◌<◌, length, get_or, refl, sym, ◌∙◌}
+use Rattle.std.proofs.Common.{rules, ◌<◌, length, get_or, refl, sym, ◌∙◌}
 use mathlib.Core.Path.{subst⁻¹}
 use lib.ListN.{length-set}
 use Rattle.graph.specs.Graph.{no_edge}

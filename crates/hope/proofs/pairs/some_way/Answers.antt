@@ -1,5 +1,5 @@
 -- `hope::pairs::some_way` meets its contract: pair by pair, way by way.
-use Rattle.std.proofs.Common.{rules, arith, refl, sym, ◌∙◌, inl, inr}
+use Rattle.std.proofs.Common.{arith, refl, sym, ◌∙◌, inl, inr}
 use lib.ListN.{replicate}
 use Rattle.sets.specs.Whole.{rows}
 use Rattle.sets.proofs.Rows.{rows-set, rows-length}

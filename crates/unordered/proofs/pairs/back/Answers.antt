@@ -1,5 +1,5 @@
 -- `unordered::pairs::back` meets its contract: the route is filled in from its end.
-use Rattle.std.proofs.Common.{rules, arith, ◌+◌, ◌-◌, ◌<◌, ◌≤◌, get_or, refl, ◌∙◌}
+use Rattle.std.proofs.Common.{arith, ◌+◌, ◌-◌, ◌<◌, ◌≤◌, get_or, refl, ◌∙◌}
 use lib.ListN.{length-set}
 use Rattle.graph.specs.Limits.{most_nodes}
 use Rattle.unordered.proofs.WrittenBack.{written_start, written_on, written_place, written-end}
@@ -27,6 +27,7 @@ loop-j-preserved c =
 
 pub returns : goal.returns
 returns c =
-    let l = c.loop-j in let end = c.loop-j-test.false in
-    (l.invariant.2
-    , λ es t. let d = c.depth-d.ensures _ _ t in (omega arith, written-end (c.depth-d.result + 1) (l.invariant.3 es t) (omega arith) (omega arith)))
+    let l = c.loop-j in let end = c.loop-j-test.false in (
+      l.invariant.2,
+      λ es t. let d = c.depth-d.ensures _ _ t in (omega arith, written-end (c.depth-d.result + 1) (l.invariant.3 es t) (omega arith) (omega arith)),
+    )

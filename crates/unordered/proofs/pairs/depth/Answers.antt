@@ -1,5 +1,5 @@
 -- `unordered::pairs::depth` meets its contract: pair by pair, back to the first.
-use Rattle.std.proofs.Common.{rules, arith, ◌<◌}
+use Rattle.std.proofs.Common.{arith, ◌<◌}
 use Rattle.unordered.proofs.WrittenBack.{counted_on, counted-end}
 use Rattle.unordered.proofs.pairs.depth.Goals as goal
 

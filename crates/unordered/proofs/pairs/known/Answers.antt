@@ -1,5 +1,5 @@
 -- `unordered::pairs::known` meets its contract: the pairs of one node, from the last down.
-use Rattle.std.proofs.Common.{rules, arith, ℕ, ◌<◌, ◌-◌, sym, ap, ◌∙◌}
+use Rattle.std.proofs.Common.{arith, ℕ, ◌<◌, ◌-◌, sym, ap, ◌∙◌}
 use mathlib.Core.Bool.{true≢false}
 use Rattle.flags.specs.Flag.{flag}
 use Rattle.graph.proofs.Splits.{true_false}

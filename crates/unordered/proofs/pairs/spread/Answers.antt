@@ -1,11 +1,11 @@
 -- `unordered::pairs::spread` meets its contract: pair by pair, edge by edge.
-use Rattle.std.proofs.Common.{rules, arith, ◌≡◌, ◌<◌, List, [], length, get_or, set, refl, sym, ap, ◌∙◌, inl, inr}
-use Rattle.graph.specs.Limits.{most_nodes, most_edges}
+use Rattle.std.proofs.Common.{arith, ◌≡◌, ◌<◌, [], length, get_or, set, refl, sym, ap, ◌∙◌, inl, inr}
+use Rattle.graph.specs.Limits.{most_edges}
 use Rattle.hope.specs.Hope.{most_pairs}
-use Rattle.sets.specs.Whole.{whole, rows}
+use Rattle.sets.specs.Whole.{rows}
 use Rattle.sets.proofs.Rows.{row_at, rows-set, rows-length}
-use Rattle.unordered.proofs.Trails.{Query, PairList, trails_start, Arrived}
-use Rattle.unordered.proofs.Turns.{Turn, done_start, done_found, turn_same, turn_start, turn_end, turn_skip, turn_on, turn_add, turn_arrived, turn_last, arrived_found}
+use Rattle.unordered.proofs.Trails.{trails_start}
+use Rattle.unordered.proofs.Turns.{done_start, done_found, turn_same, turn_start, turn_end, turn_skip, turn_on, turn_add, turn_arrived, turn_last, arrived_found}
 use Rattle.unordered.proofs.pairs.spread.Goals as goal
 use Rattle.unordered.proofs.pairs.spread.Goals.{then-left-e-ne0+then-not-has+else-y-goal+then-not-known+else-n-eq-PAIRS, then-left-e-ne0+then-not-has+else-y-goal+else-not-known, then-left-e-ne0+else-not-has, else-left-e-ne0}
 
