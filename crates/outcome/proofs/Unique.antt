@@ -3,7 +3,6 @@
 use mathlib.Core.List.{List}
 use mathlib.Core.Path.{◌∙◌, ◌≡◌, ap₂, subst, sym}
 use Prim.Native.Nat.{ℕ}
-use lib.ListN.{length}
 use Rattle.outcome.specs.declared.Report.{Report}
 use Rattle.outcome.specs.declared.Shown.{Shown}
 use Rattle.graph.specs.declared.Order.{Order}

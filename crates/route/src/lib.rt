@@ -81,7 +81,7 @@ fn trace(
     out: &mut [u16; Graph::NODES],
 ) -> usize
     requires net { Net from.now to.now × Homeward from.now to.now left.now goal dist.now via.now }
-    requires a_lt_most_nodes { (a < most_nodes) × (a ≢ goal) × (get_or dist.now a 0 < most_nodes) }
+    requires start { (a < most_nodes) × (a ≢ goal) × (get_or dist.now a 0 < most_nodes) }
     requires out_len { length out.old ≡ most_nodes }
     ensures { (length out.new ≡ most_nodes) × Found from.now to.now left.now a goal (record { edges = out.new; len = result }) }
 {
@@ -111,7 +111,7 @@ pub fn find_route(
     out: &mut [u16; Graph::NODES],
 ) -> usize
     requires net { Net from.now to.now × EdgeLists to.now links.now 0 }
-    requires a_lt_most_nodes { (a < most_nodes) × (goal < most_nodes) × (a ≢ goal) }
+    requires ends { (a < most_nodes) × (goal < most_nodes) × (a ≢ goal) }
     requires out_len { length out.old ≡ most_nodes }
     ensures { (length out.new ≡ most_nodes) × Found from.now to.now left.now a goal (record { edges = out.new; len = result }) }
 {

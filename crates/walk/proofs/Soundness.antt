@@ -31,7 +31,7 @@ module _ (succ fits : List ℕ) (a goal : ℕ) where
     apart = (subst (λ (x : ℕ). Absent x path) g (s.new k f), tt);
     unordered = λ o. true_false (s.lates goal (rw append-nil at o)) (ap (flag after) (sym g) ∙ e);
   }
-  found_onward {path} {seen} {visited} {after} {p} {k} h (goes f g h' t) s = more (found_onward h' t (carried_on fits a k s))
+  found_onward {path} {seen} {visited} {after} {p} {k} h (goes f g h' t) s = more (found_onward {path = k ∷ path} {seen = seen ++ k ∷ []} h' t (carried_on fits a k s))
     where
       more : {m : List ℕ} → Onward (k ∷ path) (seen ++ k ∷ []) k m → Onward path seen p (k ∷ m)
       more w =

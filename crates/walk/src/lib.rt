@@ -43,8 +43,8 @@ fn visit<'a, 'b, 'c, 'd, 'e>(
     doubt: bool,
     v: usize,
 ) -> bool
-    requires v_lt_most_nodes { (v < most_nodes) × (goal < most_nodes) × (flag (whole visited.old) v ≡ false) × Into (rows fits.now) goal (whole into.now) }
-    requires nodes_len { length nodes.old ≡ most_nodes }
+    requires start { (v < most_nodes) × (goal < most_nodes) × (flag (whole visited.old) v ≡ false) × Into (rows fits.now) goal (whole into.now) }
+    requires room { length nodes.old ≡ most_nodes }
     ensures { Decides (Rest (rows succ.now) (rows fits.now) goal) v result (whole visited.old) (whole visited.new) (whole after.old) (whole after.new) nodes.old nodes.new }
 {
     put_in(visited, v);
@@ -84,8 +84,8 @@ fn trial<'a, 'b, 'c, 'd, 'e>(
     doubt: bool,
     v: usize,
 ) -> bool
-    requires v_lt_most_nodes { (v < most_nodes) × (goal < most_nodes) × Into (rows fits.now) goal (whole into.now) }
-    requires nodes_len { length nodes.old ≡ most_nodes }
+    requires start { (v < most_nodes) × (goal < most_nodes) × Into (rows fits.now) goal (whole into.now) }
+    requires room { length nodes.old ≡ most_nodes }
     ensures { Decides (GoesOn (rows succ.now) (rows fits.now) goal) v result (whole visited.old) (whole visited.new) (whole after.old) (whole after.new) nodes.old nodes.new }
 {
     if hopeless(succ, fits, goal, into, visited, after, lent, doubt, v) {

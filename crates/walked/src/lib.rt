@@ -70,8 +70,8 @@ fn named(
     out: &mut [u16; Graph::NODES],
 )
     requires net { Net from.now to.now × EdgeLists from.now links.now 0 }
-    requires n_lt_most_nodes { (n < most_nodes) × Stepped from.now to.now left.now nodes.now n }
-    requires out_len { length out.old ≡ most_nodes }
+    requires steps { (n < most_nodes) × Stepped from.now to.now left.now nodes.now n }
+    requires room { length out.old ≡ most_nodes }
     ensures { (length out.new ≡ most_nodes) × Named from.now to.now left.now nodes.now out.new n }
 {
     let mut i = 0;
@@ -99,8 +99,8 @@ pub fn walked_route(
     out: &mut [u16; Graph::NODES],
 ) -> usize
     requires net { Net from.now to.now × EdgeLists from.now links.now 0 }
-    requires a_lt_most_nodes { (a < most_nodes) × (goal < most_nodes) }
-    requires out_len { length out.old ≡ most_nodes }
+    requires ends { (a < most_nodes) × (goal < most_nodes) }
+    requires room { length out.old ≡ most_nodes }
     ensures { (length out.new ≡ most_nodes) × FoundUnordered from.now to.now (rows fits.now) left.now a goal (record { edges = out.new; len = result }) }
 {
     let succ = left_of(from, to, left);

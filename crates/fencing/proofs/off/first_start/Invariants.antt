@@ -1,0 +1,12 @@
+use Prim.Native.Nat.{◌-◌, ◌≤◌}
+use mathlib.Core.Path.{◌≡◌}
+use lib.ListN.{get_or, take}
+use Rattle.graph.specs.Graph.{no_edge}
+use Rattle.graph.proofs.Scan.{Passed}
+use Rattle.fencing.proofs.off.first_start.Given as goal
+
+abbrev pub invariant-loop-i : goal.invariant-loop-i
+invariant-loop-i l = (l.i ≤ l.n) × Passed (λ j. (get_or (take l.n l.edges) j no_edge).from ≡ l.v) 0 l.i
+
+abbrev pub decreases-loop-i : goal.decreases-loop-i
+decreases-loop-i l = l.n - l.i

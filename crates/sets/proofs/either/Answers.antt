@@ -1,0 +1,7 @@
+-- `sets::either` meets its contract: word by word.
+use borrow.Author.Rules.{rules}
+use Rattle.sets.proofs.Words.{made_all, either-words}
+use Rattle.sets.proofs.either.Goals as goal
+
+pub returns : goal.returns
+returns c = made_all either-words c.loop-i.invariant c.loop-i-test.false (search rules) (search rules) (λ j. search rules) (λ j. search rules)

@@ -1,0 +1,10 @@
+use Prim.Native.Nat.{◌-◌}
+use Rattle.request.specs.File.{order_bytes}
+use Rattle.writing.proofs.Writing.{Putting}
+use Rattle.writing.proofs.put_orders.Given as goal
+
+abbrev pub invariant-loop-i : goal.invariant-loop-i
+invariant-loop-i l = Putting order_bytes 6 l.at l.n l.orders l.initial.out l.out l.p l.i
+
+abbrev pub decreases-loop-i : goal.decreases-loop-i
+decreases-loop-i l = l.n - l.i
