@@ -24,8 +24,8 @@ pub fn judged(
     goal: usize,
 ) -> bool
     requires net { Net from.now to.now × (a < most_nodes) × (goal < most_nodes) }
-    requires n_nonzero { (0 < n) × (n ≤ most_nodes) × ((k : ℕ) → k < n → get_or edges.now k 0 < length from.now) }
-    ensures { result ≡ true → (left : List ℕ) → ((k : ℕ) → k < n → Remains left (get_or edges.entry.now k 0)) → FoundUnordered from.now to.now (rows fits.now) left a goal (record { edges = edges.entry.now; len = n }) }
+    requires edges_known { (0 < n) × (n ≤ most_nodes) × ((k : ℕ) → k < n → get_or edges.now k 0 < length from.now) }
+    ensures { result ≡ true → (left : List ℕ) → ((k : ℕ) → k < n → Remains left (get_or edges.now k 0)) → FoundUnordered from.now to.now (rows fits.now) left a goal (record { edges = edges.now; len = n }) }
 {
     let mut after = fits[a];
     let mut seen = with(none(), a);

@@ -30,8 +30,8 @@ pub fn find_route(
     out: &mut [u16; Graph::NODES],
 ) -> usize
     requires net { Net from.now to.now × EdgeLists to.now ins.now 0 × EdgeLists from.now outs.now 0 }
-    requires a_lt_most_nodes { (a < most_nodes) × (goal < most_nodes) × (a ≢ goal) }
-    requires out_len { length out.old ≡ most_nodes }
+    requires ends { (a < most_nodes) × (goal < most_nodes) × (a ≢ goal) }
+    requires room { length out.old ≡ most_nodes }
     ensures { (length out.new ≡ most_nodes) × FoundUnordered from.now to.now (rows fits.now) left.now a goal (record { edges = out.new; len = result }) }
 {
     let n = route::find_route(from, to, ins, left, a, goal, out);

@@ -56,9 +56,9 @@ fn back(
     last: usize,
     out: &mut [u16; Graph::NODES],
 ) -> usize
-    requires i_lt_most_pairs { (i < most_pairs) × ((j : ℕ) → 0 < j → j ≤ i → get_or parent.now j 0 < j) }
-    requires last_lt_most_edges { (last < most_edges) × ((es : List ℕ) × Trail via.now parent.now i es × (length es + 1 ≤ most_nodes)) }
-    requires out_len { length out.old ≡ most_nodes }
+    requires pair { (i < most_pairs) × ((j : ℕ) → 0 < j → j ≤ i → get_or parent.now j 0 < j) }
+    requires edge { (last < most_edges) × ((es : List ℕ) × Trail via.now parent.now i es × (length es + 1 ≤ most_nodes)) }
+    requires room { length out.old ≡ most_nodes }
     ensures { (length out.new ≡ most_nodes) × ((es : List ℕ) → Trail via.now parent.now i es → (result ≡ length es + 1) × (take result out.new ≡ es ++ last ∷ [])) }
 {
     let d = depth(parent, i);
@@ -89,8 +89,8 @@ pub fn spread(
     out: &mut [u16; Graph::NODES],
 ) -> usize
     requires net { Net from.now to.now × EdgeLists from.now links.now 0 }
-    requires a_lt_most_nodes { (a < most_nodes) × (goal < most_nodes) × (a ≢ goal) }
-    requires kept_len { (length kept.old ≡ most_pairs) × (length out.old ≡ most_nodes) }
+    requires ends { (a < most_nodes) × (goal < most_nodes) × (a ≢ goal) }
+    requires room { (length kept.old ≡ most_pairs) × (length out.old ≡ most_nodes) }
     ensures { (length out.new ≡ most_nodes) × FoundUnordered from.now to.now (rows fits.now) left.now a goal (record { edges = out.new; len = result }) }
 {
     let mut via = [0u16; PAIRS];
