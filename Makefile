@@ -7,7 +7,7 @@ VERSION := $(shell sed -n 's/^.define FENCE_VERSION "\(.*\)"$$/\1/p' include/fen
 
 archive = target/staticlib/libfence.a
 program = target/bin/fence_list
-sources := $(shell find crates -type f \( -name '*.rt' -o -name '*.antt' \)) crates.txt
+sources := $(shell find crates -name out -prune -o -type f \( -name '*.rt' -o -name '*.antt' \) -print) crates.txt
 kit = $(shell cat packaging/kit)
 need_rt = $(if $(shell command -v $(firstword $(RT))),,$(error the toolchain is missing: put 'rt' of $(kit) on the path))
 
@@ -26,16 +26,14 @@ dist = target/dist/fence-$(VERSION)
 all: $(program) $(archive)
 	@. host/machine.sh && install_missing "$${to_run[@]}" && "$${emulator[@]}" $(program) <host/list/d.request
 
-# rt leaves a file alone that is up to date; the touch tells make so. It makes no file that rt did not.
+# rt proves only what has changed.
 $(program): $(sources)
 	$(need_rt)
-	$(RT) check fence_list
-	@touch -c $@
+	RT="$(RT)" bash packaging/program.sh
 
 $(archive): $(sources)
 	$(need_rt)
-	$(RT) staticlib fence
-	@touch -c $@
+	RT="$(RT)" bash packaging/archive.sh
 
 test:
 	bash .ci/run

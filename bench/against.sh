@@ -12,7 +12,7 @@ host=$PWD/../host
 
 # shellcheck source=../host/machine.sh
 . "$host/machine.sh"
-[ -f "$archive" ] || { echo "the library is missing: run 'rt staticlib fence'"; exit 1; }
+[ -f "$archive" ] || { echo "the library is missing: run 'bash packaging/archive.sh'"; exit 1; }
 install_missing "$cxx" python3 "${to_run[@]}"
 ulimit -s 65536 # the other build may want it
 

@@ -13,7 +13,7 @@ host=$PWD/../host
 
 # shellcheck source=../host/machine.sh
 . "$host/machine.sh"
-[ -f "$archive" ] || { echo "the library is missing: run 'rt staticlib fence'"; exit 1; }
+[ -f "$archive" ] || { echo "the library is missing: run 'bash packaging/archive.sh'"; exit 1; }
 install_missing "$cxx" glpsol cbc python3 "${to_run[@]}"
 
 ulimit -s 65536 # the plain version goes one call deeper for each edge of a cut it tries, with some KB for each

@@ -1,6 +1,6 @@
 #!/usr/bin/env bash
-# Builds and runs the host tests against target/staticlib/libfence.a (made by `rt staticlib fence`), on x86-64 directly,
-# elsewhere with a cross compiler and an emulator. Installs what is missing. Its last line is 'N passed, M failed'.
+# Builds and runs the host tests against target/staticlib/libfence.a (made by `packaging/archive.sh`), on x86-64
+# directly, elsewhere with a cross compiler and an emulator. Installs what is missing. Its last line is 'N passed, M failed'.
 #
 #     host/run.sh                 the gate's measure
 #     host/run.sh FACTOR          so many times as many files in the comparison
@@ -19,7 +19,7 @@ fail() { printf '%s\n%d passed, %d failed\n' "$1" "$passed" $((failed + 1)); exi
 # shellcheck source=machine.sh
 . ./machine.sh
 
-[ -f "$archive" ] || fail "the library is missing: run 'rt staticlib fence'"
+[ -f "$archive" ] || fail "the library is missing: run 'bash packaging/archive.sh'"
 install_missing "$cc" "$cxx" doctest cmake make "${to_run[@]}" || fail "what the host tests need is missing"
 
 mkdir -p "$build"

@@ -1,4 +1,4 @@
-// The public operations: run, ask and strip over files, for C to call.
+// The public operations: run, ask and strip over files. `fence_c` has them for C to call.
 #![tactic(auto)]
 
 ghost use Rattle.outcome.specs.Outcome.{RunOutcome, AskOutcome, StripOutcome};
@@ -7,8 +7,7 @@ use outcome::{Report, Shown, refused, unshown};
 use request::Reading;
 
 // Writes the file with a fence on each edge of the chosen cut.
-#[unsafe(no_mangle)]
-pub extern "C" fn fence_run(file: &[u8], out: &mut [u8]) -> Report
+pub fn fence_run(file: &[u8], out: &mut [u8]) -> Report
     ensures { RunOutcome file.now out.old result out.new }
 {
     match request::read(file) {
@@ -18,8 +17,7 @@ pub extern "C" fn fence_run(file: &[u8], out: &mut [u8]) -> Report
 }
 
 // Tells whether an order is held, and shows the first route that does not order its ends where it isn't.
-#[unsafe(no_mangle)]
-pub extern "C" fn fence_ask(file: &[u8], order: u64, route: &mut [u16]) -> Shown
+pub fn fence_ask(file: &[u8], order: u64, route: &mut [u16]) -> Shown
     ensures { AskOutcome file.now order route.old result route.new }
 {
     match request::read(file) {
@@ -29,8 +27,7 @@ pub extern "C" fn fence_ask(file: &[u8], order: u64, route: &mut [u16]) -> Shown
 }
 
 // Writes the file with fences taken off until so many nodes are left.
-#[unsafe(no_mangle)]
-pub extern "C" fn fence_strip(file: &[u8], count: u64, out: &mut [u8]) -> Report
+pub fn fence_strip(file: &[u8], count: u64, out: &mut [u8]) -> Report
     ensures { StripOutcome file.now count out.old result out.new }
 {
     match request::read(file) {

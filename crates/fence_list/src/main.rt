@@ -7,33 +7,36 @@ ghost use Rattle.graph.specs.Limits.{most_edges};
 use fencing::off::{first_start, next_end};
 use graph::{Edge, Graph};
 use request::Reading;
+use std::io;
+use std::io::Read;
 
-const OUT: i32 = 1;
+// A longer request is not looked at.
+const MOST_BYTES: usize = 65536;
 
-fn number(n: u64) {
-    io::print_decimal(OUT, n);
+fn number(rt: &impl Print, n: u64) -> io::Result<()> {
+    rt.print(n)
 }
 
-fn space() {
-    io::write_all(OUT, b" ");
+fn space(rt: &impl Print) -> io::Result<()> {
+    rt.print(" ")
 }
 
-fn line() {
-    io::write_all(OUT, b"\n");
+fn line(rt: &impl Print) -> io::Result<()> {
+    rt.println("")
 }
 
-fn four(a: u64, b: u64, c: u64, d: u64) {
-    number(a);
-    space();
-    number(b);
-    space();
-    number(c);
-    space();
-    number(d);
+fn four(rt: &impl Print, a: u64, b: u64, c: u64, d: u64) -> io::Result<()> {
+    number(rt, a)?;
+    space(rt)?;
+    number(rt, b)?;
+    space(rt)?;
+    number(rt, c)?;
+    space(rt)?;
+    number(rt, d)
 }
 
 // A fence's node, and the edge that it was put on: from where it is reached to where it leads.
-fn fence(edges: [Edge; Graph::EDGES], m: usize, v: usize)
+fn fence(rt: &impl Print, edges: [Edge; Graph::EDGES], m: usize, v: usize) -> io::Result<()>
     requires { m ≤ most_edges }
 {
     let i = next_end(edges, m, v, 0);
@@ -42,60 +45,64 @@ fn fence(edges: [Edge; Graph::EDGES], m: usize, v: usize)
         if j < m {
             let a = edges[i];
             let b = edges[j];
-            four(v as u64, a.from as u64, b.to as u64, a.weight as u64);
-            line();
+            four(rt, v as u64, a.from as u64, b.to as u64, a.weight as u64)?;
+            line(rt)?;
         }
     }
+    Ok(())
 }
 
 // The last k nodes of the graph written.
-fn fences(g: Graph, k: u64) {
+fn fences(rt: &impl Print, g: Graph, k: u64) -> io::Result<()> {
     let n = g.node_count;
     let m = g.edge_count;
     let edges = g.edges;
     if Graph::NODES < n {
-        return;
+        return Ok(());
     }
     if Graph::EDGES < m {
-        return;
+        return Ok(());
     }
     if (n as u64) < k {
-        return;
+        return Ok(());
     }
-    let mut v = n - (k as usize);
-    while v < n {
-        fence(edges, m, v);
-        v += 1;
+    for v in n - (k as usize)..n {
+        fence(rt, edges, m, v)?;
     }
+    Ok(())
 }
 
 // The file that run wrote, read back.
-fn written(file: &[u8], k: u64) {
-    if let Reading::Whole(counts) = request::read(file) {
-        fences(request::decode(file, counts), k);
+fn written(rt: &impl Print, file: &[u8], k: u64) -> io::Result<()> {
+    match request::read(file) {
+        Reading::Refused(_, _) => Ok(()),
+        Reading::Whole(counts) => fences(rt, request::decode(file, counts), k),
     }
 }
 
-fn list(file: &[u8]) {
-    let mut out = io::large_buffer();
+fn list(rt: &impl Print, file: &[u8]) -> io::Result<()> {
+    let mut out = [0u8; MOST_BYTES];
     let r = fence::fence_run(file, &mut out);
-    four(r.answer, r.place, r.fences, r.weight);
-    space();
-    number(r.length);
-    line();
-    if r.length <= 65536 {
-        let n = io::count(r.length as isize, &out);
-        written(&out[..n], r.fences);
+    four(rt, r.answer, r.place, r.fences, r.weight)?;
+    space(rt)?;
+    number(rt, r.length)?;
+    line(rt)?;
+    let n = r.length as usize;
+    if n <= MOST_BYTES {
+        written(rt, &out[..n], r.fences)?;
     }
+    Ok(())
 }
 
-fn main() {
-    let mut file = io::large_buffer();
-    let n = io::read_full(0, &mut file);
-    let mut more = io::buffer();
-    if io::read_full(0, &mut more) == 0 {
-        list(&file[..n]);
+fn main(rt: HostRuntime) -> io::Result<()> {
+    let mut file = Vec::new(rt.alloc());
+    // one byte more tells that there are too many
+    rt.reader()
+        .take(MOST_BYTES as u64 + 1)
+        .read_to_end(&mut file)?;
+    if file.len() <= MOST_BYTES {
+        list(&rt, &file)
     } else {
-        io::write_all(OUT, b"too long\n");
+        rt.println("too long")
     }
 }
