@@ -1,12 +1,9 @@
 -- `cut::chosen_cut` meets its contract: the open orders are found, the edges copied, the pairs gathered, and the search's answer is the chosen cut.
 -- Assumes nothing.
-use Rattle.std.proofs.Common.{rules, arith, ◌≤◌}
-use Rattle.graph.specs.Limits.{most_orders}
-use Rattle.route.specs.Way.{Net}
+use Rattle.std.proofs.Common.{arith}
 use Rattle.route.proofs.Ways.{net_ends}
 use Rattle.sets.specs.Whole.{rows}
 use Rattle.words.proofs.Made.{ruling}
-use Rattle.cut.proofs.Drawn.{lent}
 use Rattle.cut.proofs.Gathered.{gathered_paired}
 use Rattle.cut.proofs.Given.{given_differ, given_net, given_known, given_chosen}
 use Rattle.cut.proofs.chosen_cut.Goals as goal

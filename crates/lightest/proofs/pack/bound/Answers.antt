@@ -20,8 +20,7 @@ loop-i-init c =
 
 pub loop-i-preserved-then-k-eq0 : goal.loop-i-preserved-then-k-eq0
 loop-i-preserved-then-k-eq0 c =
-    let looked = found_of c.wide-a.ensures.0 c.wide-b.ensures.0 c.find_route-k.ensures.1 in
-    (
+    let looked = found_of c.wide-a.ensures.0 c.wide-b.ensures.0 c.find_route-k.ensures.1 in (
       omega arith,
       c.loop-i.invariant.1,
       c.find_route-k.ensures.0,
@@ -33,33 +32,32 @@ returns-then-allowance-sum c =
     let looked = found_of c.wide-a.ensures.0 c.wide-b.ensures.0 c.find_route-k.ensures.1 in
     let found = pos_of_ne-zero c.if-k-eq0.false in
     let earlier : Earlier (record { edges = c.loop-i.first; len = c.loop-i.len }) (record { edges = c.find_route-k.new.out; len = c.find_route-k.result })
-        (record { edges = c.if-len-eq0.first; len = c.if-len-eq0.len }) =
-        elim c.if-len-eq0.branch [
-          then-len-eq0 w ↦ inl (w.if-len-eq0.true, route_same w.first-is w.len-is)
-        | else-len-eq0 w ↦ inr (pos_of_ne-zero w.if-len-eq0.false, route_same w.first-is w.len-is)
-        ] in
+    (record { edges = c.if-len-eq0.first; len = c.if-len-eq0.len }) =
+    elim c.if-len-eq0.branch [
+      | then-len-eq0 w ↦ inl (w.if-len-eq0.true, route_same w.first-is w.len-is)
+      | else-len-eq0 w ↦ inr (pos_of_ne-zero w.if-len-eq0.false, route_same w.first-is w.len-is)
+    ] in
     let some = kept_some found earlier in
     bounding_end c.requires.posed c.requires.made.0
     (
-      bounding_more c.requires.posed c.requires.made.0 c.loop-i.invariant.3 c.loop-i-test.true looked found earlier c.tightest.ensures.least c.reduce.ensures
-      c.wider-sum.ensures.0
+    bounding_more c.requires.posed c.requires.made.0 c.loop-i.invariant.3 c.loop-i-test.true looked found earlier c.tightest.ensures.least c.reduce.ensures
+    c.wider-sum.ensures.0
     )
     (λ z. absurd (omega (arith, some, z)))
 
 pub loop-i-preserved : goal.loop-i-preserved
 loop-i-preserved c =
     let looked = found_of c.wide-a.ensures.0 c.wide-b.ensures.0 c.find_route-k.ensures.1 in
-    let found = pos_of_ne-zero c.if-k-eq0.false in
-    (
+    let found = pos_of_ne-zero c.if-k-eq0.false in (
       c.loop-i.invariant.0,
       omega (arith, c.if-allowance-sum.false),
       c.find_route-k.ensures.0,
       bounding_more c.requires.posed c.requires.made.0 c.loop-i.invariant.3 c.loop-i-test.true looked found
-      (
-        elim c.if-len-eq0.branch [
-          then-len-eq0 w ↦ inl (w.if-len-eq0.true, route_same w.first-is w.len-is)
-        | else-len-eq0 w ↦ inr (pos_of_ne-zero w.if-len-eq0.false, route_same w.first-is w.len-is)
-        ]
-      )
-      c.tightest.ensures.least c.reduce.ensures c.wider-sum.ensures.0,
+          (
+          elim c.if-len-eq0.branch [
+            | then-len-eq0 w ↦ inl (w.if-len-eq0.true, route_same w.first-is w.len-is)
+            | else-len-eq0 w ↦ inr (pos_of_ne-zero w.if-len-eq0.false, route_same w.first-is w.len-is)
+          ]
+          )
+          c.tightest.ensures.least c.reduce.ensures c.wider-sum.ensures.0,
     )

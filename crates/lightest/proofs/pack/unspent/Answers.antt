@@ -15,6 +15,6 @@ loop-e-preserved c =
     let i = c.loop-e.invariant in
     let same = flags_at most_edges _ c.loop-e.e (omega (arith, c.loop-e-test.true, c.requires)) ∙ sym c.has.ensures in
     elim c.if-not-has.branch [
-      then-not-has w ↦ rw w.r-is (omega arith, spared_out _ _ _ _ i.1 (omega arith) (same ∙ w.if-not-has.true))
-    | else-not-has w ↦ rw w.r-is (omega arith, spared_has _ _ _ _ i.1 (same ∙ w.if-not-has.false))
+      | then-not-has w ↦ rw w.r-is (omega arith, spared_out _ _ _ _ i.1 (omega arith) (same ∙ w.if-not-has.true))
+      | else-not-has w ↦ rw w.r-is (omega arith, spared_has _ _ _ _ i.1 (same ∙ w.if-not-has.false))
     ]

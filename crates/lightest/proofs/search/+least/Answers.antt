@@ -60,17 +60,17 @@ loop-e-preserved t c =
     let kept = c.loop-e.invariant.2 in
     let step : c.loop-e.e + 1 ≤ length c.args.ws.now = omega (arith, c.loop-e-test.true) in
     elim c.if-has.branch [
-      then-has+then-weight-w+then-d-lt0+else-found-weight w ↦
-        let more = made_more w.of.result w.with_edge-next.result _ _ w.of.ensures w.with_edge-next.ensures in
-        let d = deeper w.with_edge-next.result _ (edge (sym w.if-has.ensures)) w.if-weight-w.true more w.least-c.ensures.picked in
-        let lt = negative _ _ (small low d) low _ w.heavier_by-d.ensures w.if-d-lt0.true in
-        rw (w.best-is, w.found-is) (step, tried_hit so few made d lt, λ e. absurd (omega (arith, e, lt, so.capped.low)))
+      | then-has+then-weight-w+then-d-lt0+else-found-weight w ↦
+          let more = made_more w.of.result w.with_edge-next.result _ _ w.of.ensures w.with_edge-next.ensures in
+          let d = deeper w.with_edge-next.result _ (edge (sym w.if-has.ensures)) w.if-weight-w.true more w.least-c.ensures.picked in
+          let lt = negative _ _ (small low d) low _ w.heavier_by-d.ensures w.if-d-lt0.true in
+          rw (w.best-is, w.found-is) (step, tried_hit so few made d lt, λ e. absurd (omega (arith, e, lt, so.capped.low)))
       | then-has+then-weight-w+else-d-lt0 w ↦
-        let more = made_more w.of.result w.with_edge-next.result _ _ w.of.ensures w.with_edge-next.ensures in
-        let d = deeper w.with_edge-next.result _ (edge (sym w.if-has.ensures)) w.if-weight-w.true more w.least-c.ensures.picked in
-        let ge = not_negative _ _ (small low d) low _ w.heavier_by-d.ensures w.if-d-lt0.false in
-        rw (w.best-is ∙ w.least-c.ensures.best_unchanged (omega (arith, d.light, ge, deeper_low d)), w.found-is) (step, tried_same so few made d ge, kept)
+          let more = made_more w.of.result w.with_edge-next.result _ _ w.of.ensures w.with_edge-next.ensures in
+          let d = deeper w.with_edge-next.result _ (edge (sym w.if-has.ensures)) w.if-weight-w.true more w.least-c.ensures.picked in
+          let ge = not_negative _ _ (small low d) low _ w.heavier_by-d.ensures w.if-d-lt0.false in
+          rw (w.best-is ∙ w.least-c.ensures.best_unchanged (omega (arith, d.light, ge, deeper_low d)), w.found-is) (step, tried_same so few made d ge, kept)
       | then-has+else-weight-w w ↦
-        rw (w.best-is, w.found-is) (step, tried_heavy so few made (edge (sym w.if-has.ensures)) (omega (arith, w.if-weight-w.false, w.wider-w.ensures.0)), kept)
+          rw (w.best-is, w.found-is) (step, tried_heavy so few made (edge (sym w.if-has.ensures)) (omega (arith, w.if-weight-w.false, w.wider-w.ensures.0)), kept)
       | else-has w ↦ rw (w.best-is, w.found-is) (step, tried_skip so (sym w.if-has.ensures), kept)
-      ]
+    ]

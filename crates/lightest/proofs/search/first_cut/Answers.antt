@@ -1,9 +1,7 @@
 -- `lightest::search::first_cut` meets its contract: an edge of a missed route a round. What is left of all weights falls.
 -- Assumes nothing.
-use Rattle.std.proofs.Common.{arith, List, ℕ, ◌≡◌, ◌+◌, ◌*◌, ◌≤◌, ◌<◌, Bool, length, get_or}
+use Rattle.std.proofs.Common.{arith, ◌≤◌, length}
 use Rattle.graph.specs.Limits.{most_edges}
-use Rattle.lightest.specs.Made.{Cut, Made}
-use Rattle.lightest.specs.Search.{Addable}
 use Rattle.lightest.proofs.Grown.{grown, grown_small, made_none}
 use Rattle.lightest.proofs.Residues.{tightest_next}
 use Rattle.lightest.proofs.search.first_cut.Goals as goal
