@@ -133,6 +133,8 @@ def table():
 
 
 def main():
+    if os.path.exists("docs/PORT.md"):
+        raise SystemExit("respelled already: see docs/PORT.md")
     old = table()
     if sys.argv[1:] == ["list"]:
         for a, b in sorted(old.items()):
