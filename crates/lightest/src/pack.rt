@@ -63,7 +63,7 @@ fn unspent(ws: &[u16], chosen: &WideSet) -> Residue
 // An edge of the route of which the least is left.
 pub fn tightest(edges: &[u16; Graph::NODES], n: usize, left: &[u16; Graph::EDGES]) -> usize
     requires { (0 < n) × Fair (record { edges = edges.now; len = n }) }
-    ensures { Tightest (record { edges = edges.entry.now; len = n }) left.now result }
+    ensures { Tightest (record { edges = edges.now; len = n }) left.now result }
 {
     let mut e = edge_at(edges, n, 0);
     let mut a = left[e];
@@ -83,7 +83,7 @@ pub fn tightest(edges: &[u16; Graph::NODES], n: usize, left: &[u16; Graph::EDGES
 // What is left when the amount a goes along the route.
 fn reduce(edges: &[u16; Graph::NODES], n: usize, left: &mut [u16; Graph::EDGES], a: u16)
     requires { Fair (record { edges = edges.now; len = n }) × (length left.old ≡ most_edges) }
-    ensures { Reduced (record { edges = edges.entry.now; len = n }) a left.old left.new }
+    ensures { Reduced (record { edges = edges.now; len = n }) a left.old left.new }
 {
     let mut i = 0;
     while i < n {

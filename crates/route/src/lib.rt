@@ -82,7 +82,7 @@ fn trace(
 ) -> usize
     requires net { Net from.now to.now × Homeward from.now to.now left.now goal dist.now via.now }
     requires start { (a < most_nodes) × (a ≢ goal) × (get_or dist.now a 0 < most_nodes) }
-    requires out_len { length out.old ≡ most_nodes }
+    requires room { length out.old ≡ most_nodes }
     ensures { (length out.new ≡ most_nodes) × Found from.now to.now left.now a goal (record { edges = out.new; len = result }) }
 {
     let n = wide(dist[a]);
@@ -112,7 +112,7 @@ pub fn find_route(
 ) -> usize
     requires net { Net from.now to.now × EdgeLists to.now links.now 0 }
     requires ends { (a < most_nodes) × (goal < most_nodes) × (a ≢ goal) }
-    requires out_len { length out.old ≡ most_nodes }
+    requires room { length out.old ≡ most_nodes }
     ensures { (length out.new ≡ most_nodes) × Found from.now to.now left.now a goal (record { edges = out.new; len = result }) }
 {
     if !ends_left(to, links, left, goal) {

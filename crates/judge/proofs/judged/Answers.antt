@@ -20,7 +20,8 @@ loop-i-preserved c =
     let from = c.args.from.now in let to = c.args.to.now in let l = c.loop-i in
     let edge = c.requires.edges_known.2 l.i c.loop-i-test.true in
     let is = sym c.wide-e.ensures.0 in
-    let at = ap (λ (x : ℕ). get_or from x 0) is ∙ sym c.wide.ensures.0 ∙ c.if-wide-at.false in
+    let goes_on : c.wide.result ≡ l.at = omega (arith, c.if-wide-at.false) in
+    let at = ap (λ (x : ℕ). get_or from x 0) is ∙ sym c.wide.ensures.0 ∙ goes_on in
     let on = ap (λ (x : ℕ). get_or to x 0) is ∙ sym c.wide-at.ensures.0 in
     let tested = tested_on _ _ _ _ c.args.a l.invariant.1 edge at on (sym c.has.ensures ∙ c.if-has.false) in
     (omega (arith, c.loop-i-test.true), rw (c.put_in.ensures.0, c.mark_on.ensures) tested)

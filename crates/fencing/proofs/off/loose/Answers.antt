@@ -44,7 +44,7 @@ returns-then-next_end-n c =
     none_more o c.next_end.ensures c.if-next_end-n.true
 
 pub returns-then-first_start-m : goal.returns-then-first_start-m
-returns-then-first_start-m c = none_start (some_edge c.args.g c.requires c.if-n-eq0.false) c.first_start.ensures c.if-first_start-m.true
+returns-then-first_start-m c = none_start (some_edge c.args.g c.requires c.if-n-eq0.false) c.first_start.ensures (λ z. c.if-first_start-m.true (omega (arith, z)))
 
 pub returns-then-a-b : goal.returns-then-a-b
 returns-then-a-b c =
@@ -59,6 +59,7 @@ returns-then-first_pair-n c =
 pub returns : goal.returns
 returns c =
     let e = sym c.is_fence.ensures ∙ c.if-not-is_fence.false in
+    let starts : c.first_start.result ≡ last c.args.g = omega (arith, c.if-first_start-m.false) in
     let o = one_each c.args.g c.requires c.if-n-eq0.false _ e c.next_end-i.ensures c.if-m-i.false
-    c.next_end.ensures c.if-next_end-n.false c.first_start.ensures c.if-first_start-m.false in
+    c.next_end.ensures c.if-next_end-n.false c.first_start.ensures starts in
     loose_there o c.if-a-b.false c.first_pair.ensures c.if-first_pair-n.false
