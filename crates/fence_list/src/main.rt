@@ -1,7 +1,7 @@
 // fence-list: reads a request on standard input, and prints run's numbers and a line for each fence.
 #![tactic(auto)]
 
-ghost use Rattle.std.specs.Prelude.{◌≤◌};
+ghost use Rattle.std.specs.Prelude.{◌≤◌, IfOk, length};
 ghost use Rattle.graph.specs.Limits.{most_edges};
 
 use fencing::off::{first_start, next_end};
@@ -94,14 +94,28 @@ fn list(rt: &impl Print, file: &[u8]) -> io::Result<()> {
     Ok(())
 }
 
+// Fills `buf`, as far as the input goes; how many bytes came.
+fn read_full(rt: &HostRuntime, buf: &mut [u8]) -> io::Result<usize>
+    ensures { IfOk result (λ n. n ≤ length buf.new) }
+{
+    let mut input = rt.reader();
+    let mut done = 0;
+    while done < buf.len() {
+        let n = input.read(&mut buf[done..])?;
+        if n == 0 {
+            break;
+        }
+        done += n;
+    }
+    Ok(done)
+}
+
 fn main(rt: HostRuntime) -> io::Result<()> {
-    let mut file = Vec::new(rt.alloc());
     // one byte more tells that there are too many
-    rt.reader()
-        .take(MOST_BYTES as u64 + 1)
-        .read_to_end(&mut file)?;
-    if file.len() <= MOST_BYTES {
-        list(&rt, &file)
+    let mut file = [0u8; MOST_BYTES + 1];
+    let n = read_full(&rt, &mut file)?;
+    if n <= MOST_BYTES {
+        list(&rt, &file[..n])
     } else {
         rt.println("too long")
     }
