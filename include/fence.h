@@ -103,9 +103,9 @@ extern "C" {
 
 /*
  * Bytes of stack to give a thread that has a small one. They are measured, not proved. Run's search goes one level
- * deeper for each edge of the cut it tries and takes 656 bytes for it; the walk of run and ask takes 208 for
- * each node of a route. The deepest calls met leave a sixth of run's number free, a seventh of ask's and three
- * tenths of strip's.
+ * deeper for each edge of the cut it tries and takes 672 bytes for it; the walk of run and ask takes 160 for
+ * each node of a route. The deepest calls met leave a tenth of run's number free, a tenth of ask's and a fifth
+ * of strip's.
  */
 #define FENCE_RUN_STACK 1048576
 #define FENCE_ASK_STACK 262144

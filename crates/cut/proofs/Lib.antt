@@ -1,6 +1,5 @@
 -- A graph and its open orders as the search reads them, and its result as the chosen cut.
 pub mod Flagged
-pub mod Drawn
 pub mod Gathered
 pub mod Separated
 pub mod Given

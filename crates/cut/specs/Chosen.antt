@@ -15,4 +15,4 @@ pub record Chosen (g : Value.Graph) (c : Cut) : Type 0 where
   pub sum : c.weight ≡ weight (graph_of g) (rising 0 (edges_of c.chosen))
   pub small : c.weight < most_weight
   pub long : length (edges_of c.chosen) ≡ most_edges
-  pub below : (e : ℕ) → Has (edges_of c.chosen) e → e < g.edge_count
+  pub below : (e : ℕ) → Has (edges_of c.chosen) e → e < length g.edges.items

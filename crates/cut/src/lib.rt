@@ -3,50 +3,50 @@
 
 ghost use Rattle.std.specs.Prelude.{length};
 ghost use Rattle.graph.specs.Graph.{Sound, Orderly};
-ghost use Rattle.graph.specs.Value.{graph_of, orders_of, Sized};
+ghost use Rattle.graph.specs.Value.{graph_of, orders_of};
+ghost use Rattle.lightest.specs.Apart.{Apart, Posed, firsts, seconds};
+ghost use Rattle.lightest.specs.Made.{Made, cut_of, edges_of};
+ghost use Rattle.lightest.specs.Sets.{Least};
+ghost use Rattle.route.specs.Way.{starts, ends, weights};
+ghost use Rattle.sets.specs.Whole.{rows};
 ghost use Rattle.cut.specs.Chosen.{Chosen};
 
-use graph::Graph;
-use lightest::Cut;
+use graph::{Graph, Order};
+use lightest::{Cut, Problem};
+use route::Links;
+use unordered::Linked;
+use words::Sets;
 
-mod lists;
 mod near;
 
 // The chosen cut of a graph. One table is lent to the walk first and then to the search, which both write before they read.
-pub fn chosen_cut(g: Graph) -> Cut
-    requires { Sized g × Sound (graph_of g) × Orderly (length (graph_of g).nodes) (orders_of g) }
-    ensures { Chosen g result }
+pub fn chosen_cut(g: &Graph) -> Cut
+    requires { Sound (graph_of g.now) × Orderly (length (graph_of g.now).nodes) (orders_of g.now) }
+    ensures { Chosen g.now result }
 {
-    let nodes = g.nodes;
-    let rules = g.rules;
-    let fits = words::fits_of(nodes, g.node_count, rules, g.rule_count);
+    let fits = words::fits_of(&g.nodes, &g.rules);
     let mut lent = [[0u64; sets::WORDS]; Graph::NODES];
     let open = walk::open_orders(g, &fits, &mut lent);
-    let edges = g.edges;
-    let n = g.edge_count;
-    let l = lists::copied(edges, n);
-    let from = l.from;
-    let to = l.to;
-    let weights = l.weights;
-    let orders = g.orders;
-    let pairs = near::gather(orders, g.order_count, open);
-    let ends = route::link(&to[0..n]);
-    let ins = ends.entries;
-    let starts = route::link(&from[0..n]);
-    let outs = starts.entries;
-    let p = near::near_first(pairs, &from[0..n], &to[0..n], &ins);
-    let firsts = p.firsts;
-    let seconds = p.seconds;
-    let m = p.count;
-    lightest::search::best(
-        &from[0..n],
-        &to[0..n],
-        &ins,
-        &outs,
-        &fits,
-        &weights[0..n],
-        &firsts[0..m],
-        &seconds[0..m],
-        &mut lent,
-    )
+    let edges = g.edges.as_slice();
+    let ins = Links::by_ends(edges);
+    let outs = Links::by_starts(edges);
+    let open_orders = near::gather(&g.orders, &open);
+    let pairs = near::near_first(&open_orders, edges, &ins);
+    let net = Linked {
+        edges,
+        ins: &ins,
+        outs: &outs,
+        fits: &fits,
+    };
+    search(net, &pairs, &mut lent)
+}
+
+// The lightest set of edges that keeps the pairs apart. A function of its own, so that all parts of the problem are lent for one lifetime.
+fn search<'a>(net: Linked<'a>, pairs: &'a [Order], lent: &mut Sets) -> Cut
+    requires { Posed (starts net.edges.now) (ends net.edges.now) net.ins.now.entries net.outs.now.entries (weights net.edges.now) (firsts pairs.now) (seconds pairs.now) }
+    ensures made { Made (weights net.entry.edges.now) (cut_of result) }
+    ensures least { Least (weights net.entry.edges.now) (Apart (starts net.entry.edges.now) (ends net.entry.edges.now) (rows net.entry.fits.now) (firsts pairs.now) (seconds pairs.now)) (edges_of result.chosen) }
+{
+    let problem: Problem<'a> = Problem { net, pairs };
+    lightest::best(&problem, lent)
 }

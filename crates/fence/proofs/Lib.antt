@@ -2,4 +2,5 @@
 pub mod Again
 pub mod Demands
 pub mod Samples
+pub mod Told
 pub mod Main

@@ -2,7 +2,6 @@
 pub mod Keeping
 pub mod Flags
 pub mod Placed
-pub mod Along
 pub mod Tops
-pub mod Going
 pub mod Named
+pub mod Going

@@ -1,20 +1,24 @@
--- A fence put on an edge of a graph by value is a fence put on that edge of its graph.
+-- A fence put on an edge of a graph by value, or taken off one, is put on or taken off that edge of its graph.
 -- Assumes nothing.
 use mathlib.Core.List.{List, [], ◌++◌, ◌∷◌}
-use mathlib.Core.Path.{◌∙◌, ◌≡◌, ap, ap₂, sym}
-use Prim.Native.Nat.{◌+◌, ◌<◌, ℕ}
-use native.Mathlib.Numerals.{add-one}
-use native.Mathlib.Omega.{arith}
-use lib.ListN.{get_or, length, length-set, set, take}
-use lib.Seq.{length-take-le, take-suc-set, take-set-lt}
+use mathlib.Core.Path.{◌∙◌, ◌≡◌, ap, sym}
+use Prim.Native.Nat.{◌-◌, ◌<◌, ℕ}
+use lib.ListN.{drop, get_or, length, length-set, set, take}
+use lib.Seq.{get_or-take, take_at}
+use Rattle.std.specs.List.{refill}
 use Rattle.graph.specs.declared.Edge.{Edge}
 use Rattle.graph.specs.declared.Label.TheVariants.{Fence}
-use Rattle.graph.specs.Graph.{no_edge}
-use Rattle.graph.specs.Limits.{most_edges, most_nodes}
-use Rattle.graph.specs.Value.{Roomy, graph_of, labels}
+use Rattle.graph.specs.declared.Node.{Node}
+use Rattle.graph.specs.Graph.{Graph, no_edge}
+use Rattle.graph.specs.Strip.{joined}
+use Rattle.graph.specs.Value.{labels}
 use Rattle.graph.specs.Written.{fenced}
-use Rattle.graph.proofs.Value.{edge_at, labels_append, labels_length}
-use Rattle.graph.specs.declared.Graph as Value
+use Rattle.graph.proofs.Value.{labels_append, labels_length, labels_take}
+
+module _ {A : Type 0} where
+  -- a list written back over the one that it came from
+  pub refill_set : (xs : List A) (i : ℕ) (y : A) → refill (length xs) xs (set xs i y) ≡ set xs i y
+  refill_set xs i y = take_at (set xs i y) (drop (length (set xs i y)) xs) (length xs) (length-set xs i y)
 
 -- the edge e, ending at v, and going on from v
 abbrev pub up_to : Edge → ℕ → Edge
@@ -23,47 +27,32 @@ up_to e v = record { from = e.from; to = v; weight = e.weight }
 abbrev pub on_from : ℕ → Edge → Edge
 on_from v e = record { from = v; to = e.to; weight = e.weight }
 
--- as the code stores it
-abbrev pub with_fence : Value.Graph → ℕ → Value.Graph
-with_fence g i = record {
-  nodes = set g.nodes g.node_count (record { label = Fence });
-  node_count = g.node_count + 1;
-  edges =
-      set (set g.edges i (up_to (get_or g.edges i no_edge) g.node_count)) g.edge_count (on_from g.node_count (get_or g.edges i no_edge));
-  edge_count = g.edge_count + 1;
-  rules = g.rules;
-  rule_count = g.rule_count;
-  orders = g.orders;
-  order_count = g.order_count;
-}
+pub fence_put : (ns ms : List Node) (es fs : List Edge) (i v : ℕ) → v ≡ length ns → ms ≡ ns ++ record { label = Fence } ∷ []
+    → fs ≡ set es i (up_to (get_or es i no_edge) v) ++ on_from v (get_or es i no_edge) ∷ []
+    → ◌≡◌ {A = Graph} (record { nodes = labels ms; edges = fs }) (fenced (record { nodes = labels ns; edges = es }) i)
+fence_put ns ms es fs i v at nodes edges = λ k. record { nodes = new_nodes k; edges = new_edges k }
+  where
+    e : Edge
+    e = get_or es i no_edge
 
-module _ {g : Value.Graph} {i : ℕ} (roomy : Roomy g) (h : (i < g.edge_count) × (g.node_count < most_nodes) × (g.edge_count < most_edges)) where
-  nodes_on : labels (take (g.node_count + 1) (set g.nodes g.node_count (record { label = Fence }))) ≡ (graph_of g).nodes ++ (Fence ∷ [])
-  nodes_on = rw add-one (ap labels (take-suc-set g.nodes g.node_count (record { label = Fence }) (omega (arith, roomy.nodes)))
-      ∙ labels_append (take g.node_count g.nodes) (record { label = Fence } ∷ []))
+    new_nodes : labels ms ≡ labels ns ++ Fence ∷ []
+    new_nodes = ap labels nodes ∙ labels_append ns (record { label = Fence } ∷ [])
 
-  edges_on : (a b : Edge) → take (g.edge_count + 1) (set (set g.edges i a) g.edge_count b) ≡ set (graph_of g).edges i a ++ (b ∷ [])
-  edges_on a b = rw add-one (take-suc-set (set g.edges i a) g.edge_count b (omega (arith, roomy.edges, length-set g.edges i a))
-      ∙ ap (λ (es : List Edge). es ++ (b ∷ [])) (take-set-lt g.edge_count g.edges i a h.0))
+    new_edges : fs ≡ set es i (up_to e (length (labels ns))) ++ on_from (length (labels ns)) e ∷ []
+    new_edges = edges ∙ ap (λ (n : ℕ). set es i (up_to e n) ++ on_from n e ∷ []) (at ∙ sym (labels_length ns))
 
-  pub fence_put : graph_of (with_fence g i) ≡ fenced (graph_of g) i
-  fence_put = λ k. record { nodes = nodes_on k; edges = edges k }
-    where
-      e : Edge
-      e = get_or g.edges i no_edge
+pub rejoin_made : (ns ms : List Node) (es rest fs : List Edge) (i : ℕ) (last : Edge) → ms ≡ take (length ns - 1) ns → rest ≡ take (length es - 1) es
+    → i < length es - 1 → last ≡ get_or es (length es - 1) no_edge
+    → fs ≡ set rest i (record { from = (get_or rest i no_edge).from; to = last.to; weight = (get_or rest i no_edge).weight })
+    → ◌≡◌ {A = Graph} (record { nodes = labels ms; edges = fs }) (joined (record { nodes = labels ns; edges = es }) (length ns - 1) i (length es - 1))
+rejoin_made ns ms es rest fs i last nodes front low end edges = λ k. record { nodes = new_nodes k; edges = (edges ∙ new_edges) k }
+  where
+    new_nodes : labels ms ≡ take (length ns - 1) (labels ns)
+    new_nodes = ap labels nodes ∙ labels_take (length ns - 1) ns
 
-      v : length (graph_of g).nodes ≡ g.node_count
-      v = labels_length (take g.node_count g.nodes) ∙ length-take-le g.node_count g.nodes (omega (arith, roomy.nodes))
+    kept : get_or rest i no_edge ≡ get_or es i no_edge
+    kept = ap (λ (l : List Edge). get_or l i no_edge) front ∙ get_or-take (length es - 1) es i no_edge low
 
-      edges : take (g.edge_count + 1)
-          (set (set g.edges i (up_to e g.node_count)) g.edge_count (on_from g.node_count e)) ≡ (fenced (graph_of g) i).edges
-      edges = edges_on (up_to e g.node_count) (on_from g.node_count e)
-          ∙ sym (ap₂ (λ (x : Edge) (n : ℕ). set (graph_of g).edges i (up_to x n) ++ (on_from n x ∷ [])) (edge_at g i h.0) v)
-
-  pub roomy_put : Roomy (with_fence g i)
-  roomy_put = record {
-    nodes = simp length-set roomy.nodes;
-    edges = simp length-set roomy.edges;
-    rules = roomy.rules;
-    orders = roomy.orders;
-  }
+    new_edges : set rest i (record { from = (get_or rest i no_edge).from; to = last.to; weight = (get_or rest i no_edge).weight })
+        ≡ (joined (record { nodes = labels ns; edges = es }) (length ns - 1) i (length es - 1)).edges
+    new_edges = λ k. set (front k) i (record { from = (kept k).from; to = (end k).to; weight = (kept k).weight })

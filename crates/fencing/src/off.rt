@@ -1,175 +1,118 @@
 // Fences taken off, from the highest node down.
-ghost use Rattle.std.specs.Prelude.{◌≡◌, true, false, ◌+◌, ◌<◌, ◌≤◌, get_or, take};
+ghost use Rattle.std.specs.Prelude.{◌≡◌, true, false, ◌+◌, ◌-◌, ◌<◌, ◌≤◌, get_or, length};
 ghost use Rattle.graph.specs.Graph.{no_edge};
-ghost use Rattle.graph.specs.Limits.{most_edges, most_orders};
-ghost use Rattle.graph.specs.Strip.{AllName};
-ghost use Rattle.graph.specs.Value.{graph_of, Sized, Roomy};
+ghost use Rattle.graph.specs.Scan.{FirstIn};
+ghost use Rattle.graph.specs.Strip.{AllName, joined};
+ghost use Rattle.graph.specs.Value.{graph_of};
 ghost use Rattle.fencing.specs.Kept.{Kept};
-ghost use Rattle.fencing.specs.Left.{fenceb, Top, Rejoined, Off};
-ghost use Rattle.graph.specs.Scan.{FirstFrom};
+ghost use Rattle.fencing.specs.Left.{Top, Off};
 
 use graph::{Edge, Graph, Label, Order};
 
 // What is left of a graph, and the weights of the pairs rejoined.
-#[derive(Clone, Copy)]
+#[derive(Drop)]
 pub struct Left {
     pub graph: Graph,
     pub weight: u64,
 }
 
-fn is_fence(l: Label) -> bool
-    ensures { result ≡ fenceb l }
+// The three scans below are one chain each: `position` is what they share.
+
+// The first edge, from lo on, that ends at v.
+pub fn next_end(edges: &[Edge], v: usize, lo: usize) -> Option<usize>
+    requires { lo ≤ length edges.now }
+    ensures { FirstIn (λ j. (get_or edges.now j no_edge).to ≡ v) lo (length edges.now) result }
 {
-    match l {
-        Label::Store(_) => false,
-        Label::Load(_) => false,
-        Label::Fence => true,
-    }
+    edges
+        .iter()
+        .skip(lo)
+        .position(|e| usize::from(e.to) == v)
+        .map(|after| lo + after)
 }
 
-// The first of n edges, from lo on, that ends at v.
-pub fn next_end(edges: [Edge; Graph::EDGES], n: usize, v: usize, lo: usize) -> usize
-    requires { (lo ≤ n) × (n ≤ most_edges) }
-    ensures { FirstFrom (λ j. (get_or (take n edges) j no_edge).to ≡ v) lo n result }
+// The first edge that starts at v.
+pub fn first_start(edges: &[Edge], v: usize) -> Option<usize>
+    ensures { FirstIn (λ j. (get_or edges.now j no_edge).from ≡ v) 0 (length edges.now) result }
 {
-    let mut i = lo;
-    while i < n {
-        let e = edges[i];
-        if e.to as usize == v {
-            return i;
-        }
-        i += 1;
-    }
-    i
+    edges.iter().position(|e| usize::from(e.from) == v)
 }
 
-// The first of n edges that starts at v.
-pub fn first_start(edges: [Edge; Graph::EDGES], n: usize, v: usize) -> usize
-    requires { n ≤ most_edges }
-    ensures { FirstFrom (λ j. (get_or (take n edges) j no_edge).from ≡ v) 0 n result }
+// The first edge from a to b.
+fn first_pair(edges: &[Edge], a: u16, b: u16) -> Option<usize>
+    ensures { FirstIn (λ j. ((get_or edges.now j no_edge).from ≡ a) × ((get_or edges.now j no_edge).to ≡ b)) 0 (length edges.now) result }
 {
-    let mut i = 0;
-    while i < n {
-        let e = edges[i];
-        if e.from as usize == v {
-            return i;
-        }
-        i += 1;
-    }
-    i
+    edges.iter().position(|e| e.from == a && e.to == b)
 }
 
-// The first of n edges from a to b.
-fn first_pair(edges: [Edge; Graph::EDGES], n: usize, a: u16, b: u16) -> usize
-    requires { n ≤ most_edges }
-    ensures { FirstFrom (λ j. ((get_or (take n edges) j no_edge).from ≡ a) × ((get_or (take n edges) j no_edge).to ≡ b)) 0 n result }
+// The edge that ends at the highest node, where that node is loose.
+fn loose(g: &Graph) -> Option<usize>
+    ensures { Top (graph_of g.now) result }
 {
-    let mut i = 0;
-    while i < n {
-        let e = edges[i];
-        if e.from == a {
-            if e.to == b {
-                return i;
-            }
-        }
-        i += 1;
-    }
-    i
-}
-
-// The edge that ends at the highest node, where that node is loose; the count of edges where it isn't.
-fn loose(g: Graph) -> usize
-    requires { Sized g × Roomy g × (0 < g.node_count) }
-    ensures { Top (graph_of g) result }
-{
-    let n = g.edge_count;
-    if n == 0 {
-        return n;
-    }
-    let v = g.node_count - 1;
-    let m = n - 1;
-    let node = g.nodes[v];
-    let label = node.label;
-    if !is_fence(label) {
-        return n;
-    }
-    let edges = g.edges;
-    let i = next_end(edges, n, v, 0);
-    if m <= i {
-        return n;
-    }
-    if next_end(edges, n, v, i + 1) < n {
-        return n;
-    }
-    if first_start(edges, n, v) != m {
-        return n;
-    }
-    let a = edges[i];
-    let b = edges[m];
-    if a.weight != b.weight {
-        return n;
-    }
-    if first_pair(edges, n, a.from, b.to) < n {
-        return n;
-    }
-    i
-}
-
-// The graph without its highest node and its last edge: edge i ends where the last one ended.
-fn joined(g: Graph, i: usize) -> Graph
-    requires { (i < g.edge_count) × (g.edge_count ≤ most_edges) × (0 < g.node_count) }
-    ensures { Rejoined g i result }
-{
-    let m = g.edge_count - 1;
-    let a = g.edges[i];
-    let b = g.edges[m];
-    let mut r = g;
-    r.edges[i] = Edge {
-        from: a.from,
-        to: b.to,
-        weight: a.weight,
+    let edges = g.edges.as_slice();
+    let v = g.nodes.len().checked_sub(1)?;
+    let m = edges.len().checked_sub(1)?;
+    // not by `!=`: with the derived one a goal stayed open
+    let Label::Fence = g.nodes[v].label else {
+        return None;
     };
-    r.node_count = g.node_count - 1;
-    r.edge_count = m;
-    r
+    let i = next_end(edges, v, 0)?;
+    if i == m {
+        return None;
+    }
+    if next_end(edges, v, i + 1).is_some() {
+        return None;
+    }
+    if first_start(edges, v) != Some(m) {
+        return None;
+    }
+    // by index: the scans give places
+    let into = edges[i];
+    let out_of = edges[m];
+    if into.weight != out_of.weight {
+        return None;
+    }
+    if first_pair(edges, into.from, out_of.to).is_some() {
+        return None;
+    }
+    Some(i)
+}
+
+// Takes off the highest node and the last edge: edge i ends where the last one ended. The weight of edge i.
+fn rejoin(g: &mut Graph, i: usize) -> u16
+    requires { i < length g.old.edges.items - 1 }
+    ensures joined { graph_of g.new ≡ joined (graph_of g.old) (length g.old.nodes.items - 1) i (length g.old.edges.items - 1) }
+    ensures weight { result ≡ (get_or g.old.edges.items i no_edge).weight }
+    ensures kept { Kept g.old g.new }
+{
+    let last = g.edges[g.edges.len() - 1];
+    g.nodes.pop();
+    g.edges.pop();
+    g.edges[i].to = last.to;
+    g.edges[i].weight
 }
 
 // Takes fences off until c nodes are left; stops with more where the highest node isn't loose.
 pub fn take_off(g: Graph, c: usize) -> Left
-    requires { Sized g × Roomy g × (c ≤ g.node_count) }
-    ensures off { Off (graph_of g) c result.graph.node_count result.weight (graph_of result.graph) }
-    ensures kept { Kept g result.graph × Sized result.graph × Roomy result.graph }
-    ensures c_bound { (c ≤ result.graph.node_count) × (result.graph.edge_count + g.node_count ≡ g.edge_count + result.graph.node_count) }
+    requires { c ≤ length g.nodes.items }
+    ensures off { Off (graph_of g) c (length result.graph.nodes.items) result.weight (graph_of result.graph) }
+    ensures kept { Kept g result.graph }
+    ensures paired { (c ≤ length result.graph.nodes.items)
+        × (length result.graph.edges.items + length g.nodes.items ≡ length g.edges.items + length result.graph.nodes.items) }
 {
-    let mut h = g;
-    let mut weight: u64 = 0;
-    while c < h.node_count {
-        let i = loose(h);
-        if h.edge_count <= i {
-            return Left { graph: h, weight };
-        }
-        let e = h.edges[i];
-        weight += e.weight as u64;
-        h = joined(h, i);
+    let mut graph = g;
+    let mut weight = 0;
+    for _ in c..graph.nodes.len() {
+        let Some(i) = loose(&graph) else {
+            return Left { graph, weight };
+        };
+        weight += u64::from(rejoin(&mut graph, i));
     }
-    Left { graph: h, weight }
+    Left { graph, weight }
 }
 
 // Whether an order names a node numbered c or more.
-pub fn names_above(orders: [Order; Graph::ORDERS], n: usize, c: usize) -> bool
-    requires { n ≤ most_orders }
-    ensures { (result ≡ true → ¬ AllName c (take n orders)) × (result ≡ false → AllName c (take n orders)) }
+pub fn names_above(orders: &[Order], c: usize) -> bool
+    ensures { (result ≡ true → ¬ AllName c orders.now) × (result ≡ false → AllName c orders.now) }
 {
-    let mut k = 0;
-    while k < n {
-        let o = orders[k];
-        if c <= o.first as usize {
-            return true;
-        }
-        if c <= o.second as usize {
-            return true;
-        }
-        k += 1;
-    }
-    false
+    orders.iter().any(|o| c <= usize::from(o.first) || c <= usize::from(o.second))
 }

@@ -1,71 +1,53 @@
 // Fences put on the edges of a cut.
 ghost use Rattle.std.specs.Prelude.{◌≡◌, true, false, ℕ, ◌+◌, ◌<◌, ◌≤◌, length, get_or};
 ghost use Rattle.graph.specs.Limits.{most_nodes, most_edges};
-ghost use Rattle.graph.specs.Value.{graph_of, Sized, Roomy, rising};
+ghost use Rattle.graph.specs.Value.{graph_of, rising};
 ghost use Rattle.graph.specs.Written.{fenced, written};
 ghost use Rattle.fencing.specs.Kept.{Kept};
 
 use graph::{Edge, Graph, Label, Node};
 
-// The graph with a fence on edge i.
-fn with_fence(g: Graph, i: usize) -> Graph
-    requires roomy { Roomy g }
-    requires i_bound { (i < g.edge_count) × (g.node_count < most_nodes) × (g.edge_count < most_edges) }
-    ensures result_value { graph_of result ≡ fenced (graph_of g) i }
-    ensures node_count_value { (result.node_count ≡ g.node_count + 1) × (result.edge_count ≡ g.edge_count + 1) }
-    ensures kept { Kept g result × Roomy result }
+// Puts a fence on edge i.
+fn put_fence(g: &mut Graph, i: usize)
+    requires edge { i < length g.old.edges.items }
+    requires room { (length g.old.nodes.items < most_nodes) × (length g.old.edges.items < most_edges) }
+    ensures fenced { graph_of g.new ≡ fenced (graph_of g.old) i }
+    ensures grown { (length g.new.nodes.items ≡ length g.old.nodes.items + 1) × (length g.new.edges.items ≡ length g.old.edges.items + 1) }
+    ensures kept { Kept g.old g.new }
 {
-    let v = g.node_count;
-    let n = g.edge_count;
-    let e = g.edges[i];
-    let mut r = g;
-    r.nodes[v] = Node {
+    // it fits, by `room`
+    let fence = g.nodes.len() as u16;
+    let cut = g.edges[i];
+    g.nodes.push(Node {
         label: Label::Fence,
-    };
-    r.edges[i] = Edge {
-        from: e.from,
-        to: v as u16,
-        weight: e.weight,
-    };
-    r.edges[n] = Edge {
-        from: v as u16,
-        to: e.to,
-        weight: e.weight,
-    };
-    r.node_count = v + 1;
-    r.edge_count = n + 1;
-    r
+    });
+    g.edges[i] = Edge { to: fence, ..cut };
+    g.edges.push(Edge { from: fence, ..cut });
 }
 
 // How many flags are set.
-pub fn count(flags: [bool; Graph::EDGES]) -> usize
-    ensures value { result ≡ length (rising 0 flags) }
-    ensures upper_bound { result ≤ most_edges }
+pub fn count(flags: &[bool; Graph::EDGES]) -> usize
+    ensures set { result ≡ length (rising 0 flags.now) }
+    ensures few { result ≤ most_edges }
 {
-    let mut n = 0;
-    for i in 0..Graph::EDGES {
-        if flags[i] {
-            n += 1;
-        }
-    }
-    n
+    flags.iter().filter(|flag| **flag).count()
 }
 
 // The graph with a fence on each edge whose flag is set.
-pub fn put_on(g: Graph, flags: [bool; Graph::EDGES]) -> Graph
-    requires sized { Sized g × Roomy g }
-    requires by_index { (e : ℕ) → get_or flags e false ≡ true → e < g.edge_count }
-    requires flags_bound { (g.node_count + length (rising 0 flags) ≤ most_nodes) × (g.edge_count + length (rising 0 flags) ≤ most_edges) }
-    ensures result_value { graph_of result ≡ written (graph_of g) (rising 0 flags) }
-    ensures kept { Kept g result × Sized result × Roomy result }
-    ensures node_count_value { (result.node_count ≡ g.node_count + length (rising 0 flags)) × (result.edge_count ≡ g.edge_count + length (rising 0 flags)) }
+pub fn put_on(g: Graph, flags: &[bool; Graph::EDGES]) -> Graph
+    requires edges { (e : ℕ) → get_or flags.now e false ≡ true → e < length g.edges.items }
+    requires room { (length g.nodes.items + length (rising 0 flags.now) ≤ most_nodes)
+        × (length g.edges.items + length (rising 0 flags.now) ≤ most_edges) }
+    ensures fenced { graph_of result ≡ written (graph_of g) (rising 0 flags.now) }
+    ensures kept { Kept g result }
+    ensures grown { (length result.nodes.items ≡ length g.nodes.items + length (rising 0 flags.now))
+        × (length result.edges.items ≡ length g.edges.items + length (rising 0 flags.now)) }
 {
-    let n = g.edge_count;
-    let mut r = g;
-    for i in 0..n {
-        if flags[i] {
-            r = with_fence(r, i);
+    let mut result = g;
+    for (i, flag) in flags.iter().enumerate() {
+        if *flag {
+            put_fence(&mut result, i);
         }
     }
-    r
+    result
 }

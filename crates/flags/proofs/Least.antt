@@ -1,10 +1,14 @@
 -- The lowest set flag: it is set, none below it is, and it is below 64.
 -- Assumes nothing.
-use mathlib.Core.Bool.{true, false}
+use mathlib.Core.Bool.{true, false, cond}
 use mathlib.Core.Path.{◌≡◌, refl, ◌∙◌, subst}
 use Prim.Native.Nat.{ℕ, zero, suc, ◌*◌, ◌/◌, ◌%◌, ◌^◌, ◌<◌}
 use native.Mathlib.Nat.{mod-lt, pow-suc, zero-lt-suc}
 use native.Mathlib.Omega.{arith}
+use native.Mathlib.Decide.{ℕ_discrete}
+use lib.Dec.{eqb}
+use borrow.Author.Tests.{ne_eqb}
+use Rattle.std.specs.Prelude.{Some, None}
 use lib.Count.{count_trailing_zeros, under}
 use Rattle.flags.specs.Flag.{digit, flag, lowest}
 use Rattle.flags.proofs.Digit.{clear_flag, digit_half, digit_odd, flag_lt, set-flag}
@@ -29,13 +33,28 @@ trailing (suc k) n h z =
     lowest_step n (count_trailing_zeros k (n / 2)) (n % 2) refl (mod-lt n (zero-lt-suc 1))
     (λ e. trailing k (n / 2) (let g : n < 2 ^ k * 2 = subst (λ (x : ℕ). n < x) (pow-suc 2 k) h in omega (arith, g)) (λ y. z (omega (arith, y, e))))
 
-pub lowest_set : (w : ℕ) → w < 2 ^ 64 → (w ≡ 0 → ⊥) → flag w (lowest w) ≡ true
-unfolding lowest
-lowest_set w h z = set-flag w (count_trailing_zeros 64 w) (trailing 64 w h z).0
+-- t is the lowest set flag of w
+pub record Least (w t : ℕ) : Type 0 where
+  pub set : flag w t ≡ true
+  pub first : (j : ℕ) → j < t → flag w j ≡ false
+  pub within : t < 64
 
-pub lowest_first : (w j : ℕ) → w < 2 ^ 64 → (w ≡ 0 → ⊥) → j < lowest w → flag w j ≡ false
+pub lowest_some : (w t : ℕ) → w < 2 ^ 64 → lowest w ≡ Some t → Least w t
 unfolding lowest
-lowest_first w j h z l = clear_flag w j ((trailing 64 w h z).1 j l)
+lowest_some w t h e = elim (ℕ_discrete w 0) [
+  | yes z ↦ absurd (let n : cond (eqb w 0) None (Some (count_trailing_zeros 64 w)) ≡ None = rw z refl in cc)
+  | no n ↦
+      let s : cond (eqb w 0) None (Some (count_trailing_zeros 64 w)) ≡ Some (count_trailing_zeros 64 w) = rw (ne_eqb w 0 n) refl in
+      let low : Lowest w t = subst (Lowest w) (let q : count_trailing_zeros 64 w ≡ t = cc in q) (trailing 64 w h n) in
+      let set : flag w t ≡ true = set-flag w t low.0 in
+      record { set = set; first = λ j l. clear_flag w j (low.1 j l); within = flag_lt w t h set }
+]
 
-pub lowest_lt : (w : ℕ) → w < 2 ^ 64 → (w ≡ 0 → ⊥) → lowest w < 64
-lowest_lt w h z = flag_lt w (lowest w) h (lowest_set w h z)
+pub lowest_none : (w : ℕ) → lowest w ≡ None → w ≡ 0
+unfolding lowest
+lowest_none w e = elim (ℕ_discrete w 0) [
+  | yes z ↦ z
+  | no n ↦
+      let s : cond (eqb w 0) None (Some (count_trailing_zeros 64 w)) ≡ Some (count_trailing_zeros 64 w) = rw (ne_eqb w 0 n) refl in
+      absurd (cc)
+]

@@ -1,9 +1,9 @@
 -- A rule's test is right: it passes exactly when one assignment serves both sides. And a scan of the rules goes one at a time.
 -- Assumes nothing.
-use mathlib.Core.Bool.{Bool, false, true, ◌||◌, true≢false, cond, or-false, or_assoc}
+use mathlib.Core.Bool.{Bool, false, true, ◌||◌, cond, or-false, or_assoc}
 use mathlib.Core.List.{List, [], ◌∷◌}
 use mathlib.Core.Path.{◌∙◌, ◌≡◌, refl, subst, sym, ap}
-use Prim.Native.Nat.{◌<◌, ◌≤◌, suc, zero, ℕ}
+use Prim.Native.Nat.{◌<◌, suc, zero, ℕ}
 use native.Mathlib.Nat.{le_of_suc-le-suc, not-suc-le-zero}
 use lib.Dec.{eqb, eqb→eq, T}
 use lib.ListN.{get_or, length, take}
@@ -16,7 +16,8 @@ use Rattle.graph.specs.declared.Side.TheVariants.{Any, Is}
 use Rattle.graph.specs.declared.Want.{Want}
 use Rattle.graph.specs.declared.Want.TheVariants.{Free, Never, Var}
 use Rattle.graph.specs.Fit.{Fits, Matches, Ruled}
-use Rattle.graph.specs.Tests.{agree, fit_of, if_same, ruledb, someb, want_of}
+use Rattle.std.specs.List.{list_any}
+use Rattle.graph.specs.Tests.{agree, fit_of, if_same, ruledb, want_of}
 use Rattle.graph.proofs.Says.{Says, says_eq, says_iff, says_no, says_some, says_yes}
 
 -- what an assignment has to meet
@@ -80,23 +81,8 @@ says_ruled rules p q = says_some (λ r. says_fits r p q) rules
 
 module _ {A : Type 0} (f : A → Bool) where
   -- one more
-  pub some_or : (xs : List A) (i : ℕ) (d : A) → i < length xs → someb f (take (suc i) xs) ≡ (someb f (take i xs) || f (get_or xs i d))
+  pub some_or : (xs : List A) (i : ℕ) (d : A) → i < length xs → list_any f (take (suc i) xs) ≡ (list_any f (take i xs) || f (get_or xs i d))
   some_or [] i d h = absurd (not-suc-le-zero h)
   some_or (x ∷ xs) zero d h = or-false (f x)
   some_or (x ∷ xs) (suc i) d h =
-      ap (λ (b : Bool). f x || b) (some_or xs i d (le_of_suc-le-suc h)) ∙ sym (or_assoc (f x) (someb f (take i xs)) (f (get_or xs i d)))
-
-  -- where none before it passes
-  pub some_more : (xs : List A) (i : ℕ) (d : A) → i < length xs → someb f (take i xs) ≡ false → someb f (take (suc i) xs) ≡ f (get_or xs i d)
-  some_more xs i d h e = some_or xs i d h ∙ ap (λ (b : Bool). b || f (get_or xs i d)) e
-
-  -- once one passes, more change nothing
-  pub some_stays : (xs : List A) (i n : ℕ) → i ≤ n → someb f (take i xs) ≡ true → someb f (take n xs) ≡ true
-  some_stays xs zero n h e = absurd (true≢false (sym e))
-  some_stays xs (suc i) zero h e = absurd (not-suc-le-zero h)
-  some_stays [] (suc i) (suc n) h e = e
-  some_stays (x ∷ xs) (suc i) (suc n) h e = go (f x) e (some_stays xs i n (le_of_suc-le-suc h))
-    where
-      go : (b : Bool) → (b || someb f (take i xs)) ≡ true → (someb f (take i xs) ≡ true → someb f (take n xs) ≡ true) → (b || someb f (take n xs)) ≡ true
-      go true e k = refl
-      go false e k = k e
+      ap (λ (b : Bool). f x || b) (some_or xs i d (le_of_suc-le-suc h)) ∙ sym (or_assoc (f x) (list_any f (take i xs)) (f (get_or xs i d)))

@@ -8,7 +8,7 @@ use mathlib.Core.Path.{◌≡◌, refl, sym, subst, ap₂}
 use Prim.Native.Nat.{ℕ, zero, suc, ◌<◌, ◌≤◌}
 use native.Mathlib.Omega.{arith}
 use lib.Dec.{T, eqb, ltb, leb, eqb→eq, eqb_refl, ltb→lt, lt→ltb, leb→le, le→leb}
-use Rattle.graph.specs.Tests.{someb}
+use Rattle.std.specs.List.{list_any}
 use Rattle.graph.specs.Held.{Each, Absent, NoneTwice}
 
 pub record Says (b : Bool) (P : Type 0) : Type 0 where
@@ -93,7 +93,7 @@ module _ {A : Type 0} where
   everyb f [] = true
   everyb f (x ∷ xs) = f x && everyb f xs
 
-  pub says_some : {f : A → Bool} {P : A → Type 0} → ((x : A) → Says (f x) (P x)) → (xs : List A) → Says (someb f xs) ((x : A) × Memᴰ x xs × P x)
+  pub says_some : {f : A → Bool} {P : A → Type 0} → ((x : A) → Says (f x) (P x)) → (xs : List A) → Says (list_any f xs) ((x : A) × Memᴰ x xs × P x)
   says_some s [] = says_no (λ r. Memᴰ.not-nil r.1)
   says_some {f} {P} s (x ∷ xs) = says_iff {P = P x ⊎ ((y : A) × Memᴰ y xs × P y)}
       (λ r. elim r [ inl p ↦ (x, Memᴰ.head refl, p) | inr (y, m, p) ↦ (y, Memᴰ.tail m, p) ])

@@ -1,6 +1,7 @@
 -- The tests by which the code decides what fits. Nothing here has to be believed: `Ruled` in proofs/ shows that they say what `Fit` says.
 -- Assumes nothing.
-use Rattle.std.specs.Prelude.{Bool, true, false, ◌||◌, List, [], ◌∷◌, eqb}
+use Rattle.std.specs.Prelude.{Bool, true, false, List, eqb}
+use Rattle.std.specs.List.{list_any}
 use Rattle.graph.specs.declared.Label.{Label}
 use Rattle.graph.specs.declared.Label.TheVariants.{Store, Load, Fence}
 use Rattle.graph.specs.declared.Side.{Side}
@@ -41,12 +42,6 @@ agree (Var x m) (Var y n) = if_same (eqb x y) (eqb m n)
 abbrev pub fit_of : Rule → Label → Label → Bool
 fit_of r p q = agree (want_of r.left p) (want_of r.right q)
 
--- for "some rule": some of a list passes
-module _ {A : Type 0} where
-  abbrev pub someb : (A → Bool) → List A → Bool
-  someb f [] = false
-  someb f (x ∷ xs) = f x || someb f xs
-
 -- "some rule fits their labels", as a test
 abbrev pub ruledb : List Rule → Label → Label → Bool
-ruledb rules p q = someb (λ r. fit_of r p q) rules
+ruledb rules p q = list_any (λ r. fit_of r p q) rules

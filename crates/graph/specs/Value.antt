@@ -1,6 +1,6 @@
--- The lists that a graph by value holds: the first of each array, as many as it counts.
+-- The lists that a graph by value holds.
 -- Assumes nothing.
-use Rattle.std.specs.Prelude.{Bool, false, true, List, [], ◌∷◌, ◌≡◌, ℕ, ◌≤◌, ◌<◌, suc, take, get_or, length}
+use Rattle.std.specs.Prelude.{Bool, false, true, List, [], ◌∷◌, ◌≡◌, ℕ, ◌<◌, suc, get_or, length}
 use Rattle.graph.specs.declared.Edge.{Edge}
 use Rattle.graph.specs.declared.Label.{Label}
 use Rattle.graph.specs.declared.Node.{Node}
@@ -8,7 +8,7 @@ use Rattle.graph.specs.declared.Order.{Order}
 use Rattle.graph.specs.declared.Rule.{Rule}
 use Rattle.graph.specs.Graph.{Graph, no_edge, order}
 use Rattle.graph.specs.Held.{Held, Open}
-use Rattle.graph.specs.Limits.{most_nodes, most_edges, most_rules, most_orders}
+use Rattle.graph.specs.Limits.{most_nodes}
 use Rattle.graph.specs.declared.Graph as Value
 
 -- "In the library a node carries what it does, and to which address if any": what each carries
@@ -16,39 +16,25 @@ abbrev pub labels : List Node → List Label
 labels [] = []
 labels (n ∷ ns) = n.label ∷ labels ns
 
--- the nodes and edges counted
+-- its nodes and edges
 abbrev pub graph_of : Value.Graph → Graph
-graph_of g = record { nodes = labels (take g.node_count g.nodes); edges = take g.edge_count g.edges }
+graph_of g = record { nodes = labels g.nodes.items; edges = g.edges.items }
 
--- the rules counted
+-- its rules
 abbrev pub rules_of : Value.Graph → List Rule
-rules_of g = take g.rule_count g.rules
+rules_of g = g.rules.items
 
--- the orders counted
+-- its orders
 abbrev pub orders_of : Value.Graph → List Order
-orders_of g = take g.order_count g.orders
+orders_of g = g.orders.items
 
--- no count passes its limit
-pub record Sized (g : Value.Graph) : Type 0 where
-  pub nodes : g.node_count ≤ most_nodes
-  pub edges : g.edge_count ≤ most_edges
-  pub rules : g.rule_count ≤ most_rules
-  pub orders : g.order_count ≤ most_orders
+-- edges start and end at nodes
+abbrev pub Ends : List Edge → Type 0
+Ends edges = (i : ℕ) → i < length edges → ((get_or edges i no_edge).from < most_nodes) × ((get_or edges i no_edge).to < most_nodes)
 
--- each array is as long as its limit
-pub record Roomy (g : Value.Graph) : Type 0 where
-  pub nodes : length g.nodes ≡ most_nodes
-  pub edges : length g.edges ≡ most_edges
-  pub rules : length g.rules ≡ most_rules
-  pub orders : length g.orders ≡ most_orders
-
--- the first n edges start and end at nodes
-abbrev pub Ends : List Edge → ℕ → Type 0
-Ends edges n = (i : ℕ) → i < n → ((get_or edges i no_edge).from < most_nodes) × ((get_or edges i no_edge).to < most_nodes)
-
--- the first n orders name nodes
-abbrev pub Named : List Order → ℕ → Type 0
-Named orders n = (i : ℕ) → i < n → ((order orders i).first < most_nodes) × ((order orders i).second < most_nodes)
+-- orders name nodes
+abbrev pub Named : List Order → Type 0
+Named orders = (i : ℕ) → i < length orders → ((order orders i).first < most_nodes) × ((order orders i).second < most_nodes)
 
 -- flag i tells whether order i is open
 pub record Told (g : Value.Graph) (flags : List Bool) : Type 0 where

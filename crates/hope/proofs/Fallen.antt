@@ -14,7 +14,8 @@ use Rattle.flags.proofs.Digit.{unset, flag_zero}
 use Rattle.flags.proofs.Pair.{either_l, either_r, either_cases, both_true}
 use Rattle.flags.proofs.Put.{put_same, put_cases, put_keeps}
 use Rattle.graph.proofs.Splits.{lt_or_ge, true_false}
-use Rattle.hope.specs.Hope.{Inside, Lowered}
+use Rattle.hope.specs.Hope.{Lowered}
+use Rattle.sets.specs.Whole.{Inside}
 
 pub lowered_none : (l : List ℕ) (met m : ℕ) → Lowered l l met 0 m 0
 lowered_none l met m = record {

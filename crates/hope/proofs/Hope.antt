@@ -12,7 +12,8 @@ use Rattle.flags.proofs.Digit.{unset}
 use Rattle.flags.proofs.Put.{put_keeps}
 use Rattle.graph.proofs.Splits.{true_false}
 use Rattle.step.specs.Rest.{Rest, ends, goes, GoesOn, mark}
-use Rattle.hope.specs.Hope.{Into, IntoOf, Inside}
+use Rattle.hope.specs.Hope.{Into, IntoOf}
+use Rattle.sets.specs.Whole.{Inside}
 use Rattle.words.specs.Words.{listed}
 use Rattle.words.proofs.Fill.{Gathered}
 use Rattle.step.proofs.Rest.{mark_grown, rest_new, rest_live}

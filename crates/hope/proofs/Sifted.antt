@@ -1,20 +1,21 @@
 -- The pairs of a node and a set that ways on from a node come to, one after the other; and that nothing goes on where they are all looked at.
 -- Assumes nothing.
 use mathlib.Core.Bool.{true, false}
-use mathlib.Core.List.{List}
+use mathlib.Core.List.{List, [], ◌∷◌, ◌++◌}
 use mathlib.Core.Logic.{◌⊎◌, inl, inr, ⊎_elim, ◌≢◌}
 use mathlib.Core.Path.{◌≡◌, sym, ap, ◌∙◌}
 use Prim.Native.Nat.{ℕ, ◌+◌, ◌<◌, ◌≤◌}
 use native.Mathlib.Omega.{arith}
-use lib.ListN.{length, get_or, set, length-set}
-use lib.Seq.{get_or-set_same, get_or-set_other}
+use lib.ListN.{length, get_or, set, length-set, length-append, get_or-append}
+use lib.Seq.{get_or-set_same, get_or-set_other, get_or-append_seam}
 use Rattle.flags.specs.Flag.{flag, put}
 use Rattle.flags.proofs.Digit.{unset}
 use Rattle.flags.proofs.Put.{put_cases, put_keeps}
 use Rattle.graph.specs.Limits.{most_nodes}
 use Rattle.graph.proofs.Splits.{true_false, lt_or_ge}
 use Rattle.step.specs.Rest.{Rest, ends, goes, GoesOn, mark}
-use Rattle.hope.specs.Hope.{Inside, Dominated, most_pairs}
+use Rattle.hope.specs.Hope.{Dominated, most_pairs}
+use Rattle.sets.specs.Whole.{Inside}
 use Rattle.words.specs.Words.{listed}
 use Rattle.step.proofs.Rest.{mark_grown, mark_same, rest_open}
 
@@ -33,7 +34,7 @@ Covered o nodes words n y w = (flag w o.goal ≡ true) ⊎ ((y ≢ o.goal) × Do
 
 -- of the first n pairs, the first of which is v and `after`, the ways on from the first i are covered, and those from pair i over the nodes in `tried`
 pub record Sifted (o : Lookout) (nodes words : List ℕ) (n i tried : ℕ) : Type 0 where
-  pub room : (length nodes ≡ most_pairs) × (length words ≡ most_pairs)
+  pub room : (length nodes ≡ n) × (length words ≡ most_pairs)
   pub some : 0 < n
   pub few : n ≤ most_pairs
   pub start : (get_or nodes 0 0 ≡ o.v) × (get_or words 0 0 ≡ o.after)
@@ -42,11 +43,10 @@ pub record Sifted (o : Lookout) (nodes words : List ℕ) (n i tried : ℕ) : Typ
       → Covered o nodes words n y (mark o.fits (get_or words j 0) y)
 
 -- the first node looked at
-pub sifted_start : {o : Lookout} {nodes words : List ℕ} (nodes₀ words₀ : List ℕ)
-    → length nodes₀ ≡ most_pairs → length words₀ ≡ most_pairs → nodes ≡ set nodes₀ 0 o.v → words ≡ set words₀ 0 o.after → o.v < most_nodes
-    → Sifted o nodes words 1 0 o.visited
-sifted_start {o} {nodes} nodes₀ words₀ l k p q h = record {
-  room = (ap length p ∙ length-set nodes₀ 0 o.v ∙ l, ap length q ∙ length-set words₀ 0 o.after ∙ k);
+pub sifted_start : {o : Lookout} {nodes words : List ℕ} (words₀ : List ℕ) → length words₀ ≡ most_pairs → nodes ≡ o.v ∷ [] → words ≡ set words₀ 0 o.after
+    → o.v < most_nodes → Sifted o nodes words 1 0 o.visited
+sifted_start {o} {nodes} words₀ k p q h = record {
+  room = (ap length p, ap length q ∙ length-set words₀ 0 o.after ∙ k);
   some = omega arith;
   few = omega arith;
   start = (first, ap (λ (x : List ℕ). get_or x 0 0) q ∙ get_or-set_same words₀ 0 o.after 0 (omega (arith, k)));
@@ -55,7 +55,11 @@ sifted_start {o} {nodes} nodes₀ words₀ l k p q h = record {
 }
   where
     first : get_or nodes 0 0 ≡ o.v
-    first = ap (λ (x : List ℕ). get_or x 0 0) p ∙ get_or-set_same nodes₀ 0 o.v 0 (omega (arith, l))
+    first = ap (λ (x : List ℕ). get_or x 0 0) p
+
+-- a node that is put last
+last_node : {n : ℕ} (nodes : List ℕ) (k : ℕ) → length nodes ≡ n → get_or (nodes ++ k ∷ []) n 0 ≡ k
+last_node nodes k e = rw (← e) (get_or-append_seam nodes k [] 0)
 
 module _ {o : Lookout} {nodes words : List ℕ} {n i tried : ℕ} (y : Sifted o nodes words n i tried) where
   -- the same pairs, with other ways on looked at
@@ -81,9 +85,9 @@ module _ {o : Lookout} {nodes words : List ℕ} {n i tried : ℕ} (y : Sifted o 
       here j x p s e (inr q) = y.covered j x (inr (p, q)) s e
 
   -- one pair more
-  sifted_add : (k w : ℕ) → i < n → n < most_pairs → k < most_nodes → Sifted o (set nodes n k) (set words n w) (n + 1) i tried
+  sifted_add : (k w : ℕ) → i < n → n < most_pairs → k < most_nodes → Sifted o (nodes ++ k ∷ []) (set words n w) (n + 1) i tried
   sifted_add k w now free k64 = record {
-    room = (length-set nodes n k ∙ y.room.0, length-set words n w ∙ y.room.1);
+    room = (omega (arith, length-append nodes (k ∷ []), y.room.0), length-set words n w ∙ y.room.1);
     some = omega arith;
     few = omega (arith, free);
     start = (node 0 y.some ∙ y.start.0, word 0 y.some ∙ y.start.1);
@@ -91,22 +95,22 @@ module _ {o : Lookout} {nodes words : List ℕ} {n i tried : ℕ} (y : Sifted o 
     covered = covered;
   }
     where
-      node : (j : ℕ) → j < n → get_or (set nodes n k) j 0 ≡ get_or nodes j 0
-      node j h = get_or-set_other nodes n j k 0 (λ z. omega (arith, z, h))
+      node : (j : ℕ) → j < n → get_or (nodes ++ k ∷ []) j 0 ≡ get_or nodes j 0
+      node j h = get_or-append nodes (k ∷ []) 0 j (omega (arith, h, y.room.0))
 
       word : (j : ℕ) → j < n → get_or (set words n w) j 0 ≡ get_or words j 0
       word j h = get_or-set_other words n j w 0 (λ z. omega (arith, z, h))
 
-      low : (j : ℕ) → j < n + 1 → get_or (set nodes n k) j 0 < most_nodes
+      low : (j : ℕ) → j < n + 1 → get_or (nodes ++ k ∷ []) j 0 < most_nodes
       low j h =
           ⊎_elim (λ l. omega (arith, node j l, y.low j l))
-          (λ l. let p : j ≡ n = omega (arith, h, l) in rw (p, get_or-set_same nodes n k 0 (omega (arith, y.room.0, free))) k64) (lt_or_ge j n)
+          (λ l. let p : j ≡ n = omega (arith, h, l) in rw (p, last_node nodes k y.room.0) k64) (lt_or_ge j n)
 
-      kept : (x m : ℕ) → Dominated nodes words n x m → Dominated (set nodes n k) (set words n w) (n + 1) x m
+      kept : (x m : ℕ) → Dominated nodes words n x m → Dominated (nodes ++ k ∷ []) (set words n w) (n + 1) x m
       kept x m (j, h, e, f) = (j, omega (arith, h), node j h ∙ e, λ q t. f q (ap (λ (z : ℕ). flag z q) (sym (word j h)) ∙ t))
 
-      covered : (j x : ℕ) → (j < i) ⊎ ((j ≡ i) × (flag tried x ≡ true)) → listed o.succ (get_or (set nodes n k) j 0) x ≡ true → flag o.visited x ≡ false
-          → Covered o (set nodes n k) (set words n w) (n + 1) x (mark o.fits (get_or (set words n w) j 0) x)
+      covered : (j x : ℕ) → (j < i) ⊎ ((j ≡ i) × (flag tried x ≡ true)) → listed o.succ (get_or (nodes ++ k ∷ []) j 0) x ≡ true → flag o.visited x ≡ false
+          → Covered o (nodes ++ k ∷ []) (set words n w) (n + 1) x (mark o.fits (get_or (set words n w) j 0) x)
       covered j x c s e =
           let h : j < n = ⊎_elim (λ b. omega (arith, b, now)) (λ b. omega (arith, b.0, now)) c in
           rw (word j h) (⊎_elim inl (λ b. inr (b.0, kept x _ b.1)) (y.covered j x c (ap (λ (z : ℕ). listed o.succ z x) (sym (node j h)) ∙ s) e))
@@ -114,11 +118,11 @@ module _ {o : Lookout} {nodes words : List ℕ} {n i tried : ℕ} (y : Sifted o 
 -- and the way on that came to it
 pub sifted_new : {o : Lookout} {nodes words : List ℕ} {n i tried k w more : ℕ} → Sifted o nodes words n i tried
     → w ≡ mark o.fits (get_or words i 0) k → more ≡ put tried k → k ≢ o.goal → i < n → n < most_pairs → k < most_nodes
-    → Sifted o (set nodes n k) (set words n w) (n + 1) i more
+    → Sifted o (nodes ++ k ∷ []) (set words n w) (n + 1) i more
 sifted_new {o} {nodes} {words} {n} {i} {tried} {k} {w} y is one apart now free k64 =
     let word : get_or (set words n w) n 0 ≡ w = get_or-set_same words n w 0 (omega (arith, y.room.1, free)) in
     sifted_pass (sifted_add y k w now free k64) (is ∙ ap (λ (x : ℕ). mark o.fits x k) (sym (get_or-set_other words n i w 0 (λ z. omega (arith, z, now))))) one
-    (inr (apart, (n, omega arith, get_or-set_same nodes n k 0 (omega (arith, y.room.0, free)), λ q t. ap (λ (z : ℕ). flag z q) (sym word) ∙ t)))
+    (inr (apart, (n, omega arith, last_node nodes k y.room.0, λ q t. ap (λ (z : ℕ). flag z q) (sym word) ∙ t)))
 
 -- where every pair has been looked at nothing goes on
 module _ {o : Lookout} {nodes words : List ℕ} {n i : ℕ} (y : Sifted o nodes words n i o.visited) (all : n ≤ i) where
@@ -159,9 +163,9 @@ module _ {o : Lookout} {nodes words : List ℕ} {n i next before tried : ℕ} (y
 
   -- the pair is new
   pub passing_add : {k w more : ℕ} → w ≡ mark o.fits before k → more ≡ put tried k → k ≢ o.goal → n < most_pairs → k < most_nodes
-      → Passing o (set nodes n k) (set words n w) (n + 1) i next before more
+      → Passing o (nodes ++ k ∷ []) (set words n w) (n + 1) i next before more
   passing_add {k} {w} is one apart free k64 =
-      let e : get_or (set nodes n k) i 0 ≡ get_or nodes i 0 = get_or-set_other nodes n i k 0 (λ z. omega (arith, z, y.within)) in
+      let e : get_or (nodes ++ k ∷ []) i 0 ≡ get_or nodes i 0 = get_or-append nodes (k ∷ []) 0 i (omega (arith, y.within, y.sifted.room.0)) in
       let f : get_or (set words n w) i 0 ≡ get_or words i 0 = get_or-set_other words n i w 0 (λ z. omega (arith, z, y.within)) in
       record {
         within = omega (arith, y.within);

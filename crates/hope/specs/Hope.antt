@@ -2,6 +2,7 @@
 -- Assumes nothing.
 use Rattle.std.specs.Prelude.{true, false, List, ◌↔◌, ◌≡◌, ℕ, ◌<◌, get_or}
 use Rattle.flags.specs.Flag.{flag, either, both, less}
+use Rattle.sets.specs.Whole.{Inside}
 use Rattle.words.specs.Words.{listed}
 
 -- each node of `into` is one that a rule fits with the goal
@@ -11,10 +12,6 @@ Into fits goal into = (p : ℕ) → flag into p ≡ true → listed fits p goal 
 -- `into` has exactly those of the first n nodes that a rule fits with the goal
 abbrev pub IntoOf : List ℕ → ℕ → ℕ → ℕ → Type 0
 IntoOf fits goal n into = (p : ℕ) → (flag into p ≡ true) ↔ ((p < n) × (listed fits p goal ≡ true))
-
--- each node of the first set is in the second
-abbrev pub Inside : ℕ → ℕ → Type 0
-Inside a b = (k : ℕ) → flag a k ≡ true → flag b k ≡ true
 
 -- how many pairs of a node and a set are kept
 abbrev pub most_pairs : ℕ

@@ -1,2 +1,3 @@
--- The definitions that this crate's contracts cite: what the tests for a way on say of their sets.
+-- The definitions that this crate's contracts cite. Hope: what the tests for a way on say of their sets. Ways: what they say of the ways on.
 pub mod Hope
+pub mod Ways

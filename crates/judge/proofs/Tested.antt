@@ -3,12 +3,12 @@
 use mathlib.Core.Bool.{true, false, true≢false}
 use mathlib.Core.List.{List, [], ◌∷◌, ◌++◌}
 use mathlib.Core.Logic.{◌⊎◌, inl, inr, ◌≢◌}
-use mathlib.Core.Path.{◌≡◌, refl, sym, ap, subst, subst⁻¹, ◌∙◌}
+use mathlib.Core.Path.{◌≡◌, refl, sym, ap, subst, ◌∙◌}
 use Prim.Native.Nat.{ℕ, ◌+◌, ◌<◌, ◌≤◌}
 use native.Mathlib.Omega.{arith}
-use lib.ListN.{length, get_or, length-append, get_or-append}
-use lib.Seq.{take_all, get_or_at}
-use borrow.Author.Count.{below_more}
+use lib.ListN.{length, get_or, take}
+use lib.Seq.{take_all}
+use Rattle.std.proofs.lemmas.List.{take_more}
 use Rattle.flags.specs.Flag.{flag, put}
 use Rattle.graph.specs.Held.{Absent, NoneTwice, Ordered}
 use Rattle.graph.specs.Limits.{most_nodes}
@@ -18,13 +18,13 @@ use Rattle.step.proofs.Rest.{mark_keeps}
 use Rattle.route.specs.Way.{Remains}
 use Rattle.walk.proofs.Carried.{Carried, carried_start, carried_on}
 use Rattle.walk.specs.Asked.{Lists}
-use Rattle.walked.specs.Unordered.{Out, Goes, FoundUnordered}
+use Rattle.walked.specs.Unordered.{Goes, FoundUnordered}
 use Rattle.walked.proofs.Chains.{Chain, last, chain_join, chain_found}
 
-module _ (from to fits edges : List ℕ) (a : ℕ) where
+module _ (from to fits route : List ℕ) (a : ℕ) where
   -- something is left of each of the first i edges
   abbrev pub Usable : List ℕ → ℕ → Type 0
-  Usable left i = (k : ℕ) → k < i → Remains left (get_or edges k 0)
+  Usable left i = (k : ℕ) → k < i → Remains left (get_or route k 0)
 
   -- the edges es lead from a to `at` over the nodes between, if something is left of the first i; where that orders the two, `at` is in `after`
   pub record Led (es passed : List ℕ) (i at after : ℕ) : Type 0 where
@@ -37,23 +37,17 @@ module _ (from to fits edges : List ℕ) (a : ℕ) where
   abbrev pub Come : List ℕ → List ℕ → ℕ → ℕ → ℕ → Type 0
   Come es passed i at after = ((es ≡ []) × (passed ≡ []) × (at ≡ a)) ⊎ Led es passed i at after
 
-  -- the first i edges, which are es, lead over the nodes `passed` and have come to `at`; `path` has these nodes and a, in any order
+  -- the first i edges lead over the nodes `passed` and have come to `at`; `path` has these nodes and a, in any order
   pub record Tested (seen after at i : ℕ) : Type 0 where
-    pub es : List ℕ
-    pub long : length es ≡ i
-    pub firsts : (k : ℕ) → k < i → get_or es k 0 ≡ get_or edges k 0
     pub path : List ℕ
     pub passed : List ℕ
     pub carried : Carried fits a path passed seen after
     pub same : (k : ℕ) → Absent k path → Absent k (a ∷ passed)
     pub once : NoneTwice (a ∷ passed)
-    pub come : Come es passed i at after
+    pub come : Come (take i route) passed i at after
 
   pub tested_start : Tested (put 0 a) (get_or fits a 0) a 0
   tested_start = record {
-    es = [];
-    long = refl;
-    firsts = λ k h. absurd (omega (arith, h));
     path = a ∷ [];
     passed = [];
     carried = carried_start fits a;
@@ -63,46 +57,29 @@ module _ (from to fits edges : List ℕ) (a : ℕ) where
   }
 
   -- one edge more, to a node that has not been seen
-  pub tested_on : {seen after at i v : ℕ} → Tested seen after at i → get_or edges i 0 < length from
-      → get_or from (get_or edges i 0) 0 ≡ at → get_or to (get_or edges i 0) 0 ≡ v → flag seen v ≡ false → Tested (put seen v) (mark fits after v) v (i + 1)
-  tested_on {seen} {after} {at} {i} {v} g f p q new = record {
-    es = g.es ++ get_or edges i 0 ∷ [];
-    long = omega (arith, length-append g.es (get_or edges i 0 ∷ []), g.long);
-    firsts = below_more (λ k. get_or (g.es ++ get_or edges i 0 ∷ []) k 0 ≡ get_or edges k 0) i
-        (λ k h. get_or-append g.es (get_or edges i 0 ∷ []) 0 k (omega (arith, h, g.long)) ∙ g.firsts k h)
-        (get_or_at g.es (get_or edges i 0) [] 0 i g.long);
+  pub tested_on : {seen after at i v : ℕ} → Tested seen after at i → i < length route → get_or route i 0 < length from
+      → get_or from (get_or route i 0) 0 ≡ at → get_or to (get_or route i 0) 0 ≡ v → flag seen v ≡ false → Tested (put seen v) (mark fits after v) v (i + 1)
+  tested_on {seen} {after} {at} {i} {v} g h f p q new = record {
     path = v ∷ g.path;
     passed = g.passed ++ v ∷ [];
     carried = carried_on fits a v g.carried;
     same = λ k n. each_append (λ y. k ≢ y) (a ∷ g.passed) (v ∷ []) (g.same k n.1) (n.0, tt);
     once = none_twice_join (a ∷ g.passed) (v ∷ []) g.once (tt, tt) (g.same v (g.carried.new v new), tt);
-    come = inr
-        (record { between = g.passed; ends = refl; chain = λ left u. more left u g.come; late = λ o. mark_keeps fits after v v (g.carried.lates v o) });
+    come = rw (take_more route i 0 h) (inr
+        (record { between = g.passed; ends = refl; chain = λ left u. more left u g.come; late = λ o. mark_keeps fits after v v (g.carried.lates v o) }));
   }
     where
-      more : (left : List ℕ) → Usable left (i + 1) → Come g.es g.passed i at after
-          → Chain (Goes from to (Remains left)) a (g.es ++ get_or edges i 0 ∷ []) g.passed v
+      more : (left : List ℕ) → Usable left (i + 1) → Come (take i route) g.passed i at after
+          → Chain (Goes from to (Remains left)) a (take i route ++ get_or route i 0 ∷ []) g.passed v
       more left u (inl (z, n, s)) = rw (z, n) (last (f, u i (omega arith), p ∙ s, q))
       more left u (inr d) = rw d.ends (chain_join _ (d.chain left (λ k h. u k (omega (arith, h)))) (f, u i (omega arith), p, q))
 
-  -- all n edges have been tested, they lead to the goal, and nothing orders it
-  pub tested_end : {seen after goal n : ℕ} → Tested seen after goal n → 0 < n → n ≤ most_nodes → flag after goal ≡ false
-      → (left : List ℕ) → Usable left n → FoundUnordered from to fits left a goal (record { edges = edges; len = n })
-  tested_end {seen} {after} {goal} {n} g pos few out left u = record {
-    short = few;
-    none = λ z. absurd (omega (arith, z, pos));
-    edge = λ k h. subst (λ (x : ℕ). (x < length from) × Remains left x) (g.firsts k h) (found.edge k h);
-    way = λ h t off. found.way h t (λ k l. subst⁻¹ (Out t) (g.firsts k l) (off k l));
-  }
+  -- all edges have been tested, they lead to the goal, and nothing orders it
+  pub tested_end : {seen after goal : ℕ} → Tested seen after goal (length route) → 0 < length route → length route ≤ most_nodes → flag after goal ≡ false
+      → (left : List ℕ) → Usable left (length route) → FoundUnordered from to fits left a goal route
+  tested_end {seen} {after} {goal} g pos few out left u = go (rw (take_all (length route) route (omega arith)) at g.come)
     where
-      go : Come g.es g.passed n goal after → FoundUnordered from to fits left a goal (record { edges = g.es; len = n })
-      go (inl (z, _, _)) = absurd (omega (arith, pos, g.long, ap length z))
-      go (inr d) = chain_found from to fits left a goal g.es d.between (record { edges = g.es; len = n }) (d.chain left u)
-          (subst (λ (l : List ℕ). NoneTwice (a ∷ l)) d.ends g.once)
-          (λ o. true≢false (sym (d.late o) ∙ out))
-          (omega (arith, few, g.long))
-          (sym g.long)
-          (take_all n g.es (omega (arith, g.long)))
-
-      found : FoundUnordered from to fits left a goal (record { edges = g.es; len = n })
-      found = go g.come
+      go : Come route g.passed (length route) goal after → FoundUnordered from to fits left a goal route
+      go (inl (z, _, _)) = absurd (omega (arith, pos, ap length z))
+      go (inr d) = chain_found from to fits left a goal route d.between (d.chain left u) (subst (λ (l : List ℕ). NoneTwice (a ∷ l)) d.ends g.once)
+          (λ o. true≢false (sym (d.late o) ∙ out)) few

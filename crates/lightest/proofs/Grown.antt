@@ -8,8 +8,7 @@ use Prim.Native.Nat.{◌+◌, ◌*◌, ◌<◌, ◌≤◌, ℕ}
 use native.Mathlib.Omega.{arith}
 use lib.ListN.{get_or, length, length-replicate, length-set, replicate, set}
 use lib.Seq.{get_or-set_other, get_or-set_same}
-use Rattle.lightest.specs.Made.{Cut, Made, cut_at, cut_by, edges_of, most_weight}
-use Rattle.lightest.specs.declared.Cut as Value
+use Rattle.lightest.specs.Made.{Cut, Made, cut_at, cut_by, most_weight}
 use Rattle.lightest.specs.Search.{Addable}
 use Rattle.lightest.specs.Sets.{Edges, Has, PartOf, weigh}
 use Rattle.graph.specs.Cut.{total}
@@ -81,9 +80,3 @@ made_most ws c m g = omega (arith, m.sum, total-most (λ i. get_or ws i 0) 0 c.c
 -- the weight of a cut is what its edges weigh
 pub made_by : (ws words : List ℕ) (w : ℕ) → Made ws (cut_at words w) → Made ws (cut_by ws words)
 made_by ws words w m = record { edges = m.edges; sum = refl; small = omega (arith, m.sum, m.small) }
-
--- a cut made of words and a weight, with an edge more
-pub made_more : {words : List ℕ} {v : ℕ} (o n : Value.Cut) (e w : ℕ) → (o.weight ≡ v) × (o.chosen ≡ words)
-    → (edges_of n.chosen ≡ set (edges_of o.chosen) e true) × (n.weight ≡ o.weight + w)
-    → (edges_of n.chosen ≡ set (edges_of words) e true) × (n.weight ≡ v + w)
-made_more o n e w p q = (q.0 ∙ ap (λ (x : List ℕ). set (edges_of x) e true) p.1, omega (arith, q.1, p.0))

@@ -1,7 +1,7 @@
 -- The mathematics of the search for the lightest set of edges.
-pub mod Diff
 pub mod Weights
 pub mod Fore
+pub mod Mapped
 pub mod Grown
 pub mod Residues
 pub mod Bounding

@@ -2,7 +2,7 @@
 -- Assumes nothing.
 use mathlib.Core.Bool.{Bool, true, false}
 use mathlib.Core.List.{List}
-use mathlib.Core.Path.{◌≡◌, sym, ◌∙◌, subst}
+use mathlib.Core.Path.{◌≡◌, subst}
 use Prim.Native.Nat.{ℕ, ◌+◌, ◌-◌, ◌<◌, ◌≤◌}
 use native.Mathlib.Omega.{arith}
 use lib.ListN.{length, get_or, set}
@@ -14,7 +14,6 @@ use Rattle.lightest.specs.Sets.{Has, PartOf, weigh}
 use Rattle.graph.specs.Limits.{most_edges}
 use Rattle.graph.proofs.Splits.{true_false}
 use Rattle.lightest.proofs.Grown.{grown_part, grown_heavy, part-more}
-use Rattle.lightest.proofs.Weights.{total-part}
 
 -- after the edges of es below i: the best so far, and what has one of them is no lighter
 pub record Tried (ws : List ℕ) (P : List Bool → Type 0) (s : Cut) (limit es : ℕ) (best : Cut) (i : ℕ) : Type 0 where
@@ -40,24 +39,6 @@ module _ {ws : List ℕ} {P : List Bool → Type 0} {s : Cut} {limit : ℕ} wher
   -- it is as light as the bound allows
   pub pick_tight : {c : Cut} (left : List ℕ) (sum : ℕ) → Capped ws P s limit c → Packed ws P s left sum → c.weight ≤ s.weight + sum → Picked ws P s limit c
   pick_tight left sum w p h = record { capped = w; least = λ t b. omega (arith, p t b) }
-
-  -- no route is left
-  pub pick_leaf : Made ws s → P s.chosen → s.weight ≤ limit → Picked ws P s limit s
-  pick_leaf ms p h = record {
-    capped = record { low = h; some = λ l. (ms, record { edges = ms.edges; good = p; has = λ e q. q }) };
-    least = λ t b. omega (arith, ms.sum, total-part (λ i. get_or ws i 0) 0 s.chosen t (ms.edges.long ∙ sym b.edges.long) b.has);
-  }
-
-  -- every edge of the route was tried
-  pub pick_all : {es : ℕ} {best : Cut} {n : ℕ} → ((e : ℕ) → flag es e ≡ true → e < n) → ((t : List Bool) → P t → (e : ℕ) × (flag es e ≡ true) × Has t e)
-      → Tried ws P s limit es best n → Picked ws P s limit best
-  pick_all below must so = record {
-    capped = so.capped;
-    least = λ t b. let m = must t b.good in so.seen t b m.0 (below m.0 m.1) m.1 m.2;
-  }
-
-  pub tried_none : {es : ℕ} {c : Cut} → c.weight ≡ limit → Tried ws P s limit es c 0
-  tried_none e = record { capped = capped_none e; seen = λ t b k h. absurd (omega arith) }
 
   module _ {es : ℕ} {best : Cut} {e : ℕ} (so : Tried ws P s limit es best e) where
     -- an edge more, and the best is c

@@ -1,9 +1,17 @@
 -- What a cut must meet: the unordered routes of a list of pairs of nodes over one graph.
 -- Assumes nothing.
-use Rattle.std.specs.Prelude.{Bool, List, ◌≢◌, ◌≡◌, ℕ, ◌<◌, ◌≤◌, length, get_or}
+use Rattle.std.specs.Prelude.{Bool, List, map, ◌≢◌, ◌≡◌, ℕ, ◌<◌, ◌≤◌, length, get_or}
+use Rattle.graph.specs.declared.Order.{Order}
 use Rattle.graph.specs.Limits.{most_nodes, most_orders}
 use Rattle.route.specs.Way.{EdgeLists, Net}
 use Rattle.walked.specs.Unordered.{Parts}
+
+-- the first node of each order, and the second
+abbrev pub firsts : List Order → List ℕ
+firsts orders = map (λ (o : Order). o.first) orders
+
+abbrev pub seconds : List Order → List ℕ
+seconds orders = map (λ (o : Order). o.second) orders
 
 -- without the edges of t, every route from the first node of a pair to its second orders them
 abbrev pub Apart : List ℕ → List ℕ → List ℕ → List ℕ → List ℕ → List Bool → Type 0

@@ -1,119 +1,98 @@
 // The search: some cut quickly, a lightest one by branching on a route, then the list of the chosen one, edge by edge.
-ghost use Rattle.std.specs.Prelude.{◌≡◌, ◌+◌, ◌<◌};
-ghost use Rattle.sets.specs.Whole.{whole, rows};
+ghost use Rattle.std.specs.Prelude.{◌≡◌, ◌+◌, ◌<◌, ◌≤◌, MatchBool, length};
+ghost use Rattle.sets.specs.Whole.{whole};
 ghost use Rattle.lightest.specs.Made.{Made, cut_at, cut_by, cut_of, edges_of, most_weight};
 ghost use Rattle.lightest.specs.Sets.{Least};
-ghost use Rattle.lightest.specs.Apart.{Apart, Posed};
-ghost use Rattle.lightest.specs.Search.{Fair, Marks, Levelled, Picked};
+ghost use Rattle.lightest.specs.Search.{Fair, Levelled, Marks, Parted, Picked, costs};
 
-use crate::pack::{bound, edge_at, tightest, wider};
-use crate::{Cut, heavier_by};
+use crate::pack::{bound, tightest};
+use crate::{Cut, Problem, heavier_by};
 use graph::Graph;
-use route::EdgeRoute;
-use sets::wide::{WideSet, has, none, put_in};
+use sets::{WideSet, has, none, put_in};
 use words::Sets;
 
 // Every cut weighs less.
 const ABOVE: u32 = Graph::EDGES as u32 * 65535 + 1;
 
-// What a level of the search keeps of a bound: the edges of the route to branch on, how many they are, and the sum.
+// What a level of the search keeps of a bound: the edges of the route to branch on, none where the chosen ones are a cut, and the sum.
 #[derive(Clone, Copy)]
-pub struct Level {
-    pub route: WideSet,
-    pub len: usize,
-    pub sum: u32,
+struct Level {
+    route: Option<WideSet>,
+    sum: u32,
 }
 
 // The edges of a route, as a set.
-fn edges_of(route: EdgeRoute) -> WideSet
-    requires { Fair route }
-    ensures { Marks route route.len (whole result) }
+#[tactic(auto, using(crate::proofs::Flags::marks_none, crate::proofs::Flags::marks_more))]
+fn edges_of(route: &[u16]) -> WideSet
+    requires { Fair route.now }
+    ensures { Marks route.now (length route.now) (whole result) }
 {
-    let edges = route.edges;
-    let n = route.len;
     let mut set = none();
-    for i in 0..n {
-        put_in(&mut set, edge_at(&edges, n, i));
+    for &e in route {
+        put_in(&mut set, usize::from(e));
     }
     set
 }
 
 // What a level keeps of the bound on the chosen edges. It is a function by itself so that the bound's arrays are gone when the search goes deeper.
-fn level_of(
-    from: &[u16],
-    to: &[u16],
-    ins: &[u16; Graph::NODES + Graph::EDGES],
-    on: &[u16; Graph::NODES + Graph::EDGES],
-    fits: &Sets,
-    ws: &[u16],
-    us: &[u16],
-    vs: &[u16],
-    chosen: &WideSet,
-    allowance: u32,
-    kept: &mut Sets,
-) -> Level
-    requires posed { Posed from.now to.now ins.now on.now ws.now us.now vs.now }
-    requires made { (Made ws.now (cut_by ws.now chosen.now)) × (allowance < most_weight) }
-    ensures { Levelled ws.now (Apart from.now to.now (rows fits.now) us.now vs.now) (cut_by ws.now chosen.now) (whole result.route) result.len result.sum }
+fn level_of(problem: &Problem<'_>, chosen: &WideSet, allowance: u32, kept: &mut Sets) -> Level
+    requires { Made (costs problem.now) (cut_by (costs problem.now) chosen.now) × (allowance < most_weight) }
+    ensures { Levelled (costs problem.now) (Parted problem.now) (cut_by (costs problem.now) chosen.now) result }
 {
-    let b = bound(from, to, ins, on, fits, ws, us, vs, chosen, allowance, kept);
-    let route = edges_of(b.route);
+    let packing = bound(problem, chosen, allowance, kept);
+    let route = if packing.route.is_empty() {
+        None
+    } else {
+        Some(edges_of(&packing.route))
+    };
     Level {
         route,
-        len: b.route.len,
-        sum: b.sum,
+        sum: packing.sum,
     }
 }
 
+// Whether the first of two cuts is lighter: the sign of the difference decides.
+fn lighter(weight: u32, other: u32) -> bool
+    requires { (weight < most_weight) × (other < most_weight) }
+    ensures { MatchBool result (weight < other) (other ≤ weight) }
+{
+    heavier_by(weight, other) < 0
+}
+
 // A lightest cut that has the chosen edges and weighs less than the allowance more than they do: its weight is the answer, and its edges are
-// written to `best`. Where there is none, the answer is where the allowance ends, and `best` stays as it was. The chosen edges are lent, since
-// a cut handed on by value would stand twice on each level's stack: in its local and in the call.
+// written to `best`. Where there is none, the answer is where the allowance ends, and `best` stays as it was: so the sign of a difference alone
+// decides, with no flag or `Option` beside it. The chosen edges are lent, since a cut handed on by value would stand twice on each level's stack:
+// in its local and in the call.
 fn least(
-    from: &[u16],
-    to: &[u16],
-    ins: &[u16; Graph::NODES + Graph::EDGES],
-    on: &[u16; Graph::NODES + Graph::EDGES],
-    fits: &Sets,
-    ws: &[u16],
-    us: &[u16],
-    vs: &[u16],
-    chosen: &WideSet,
-    weight: u32,
+    problem: &Problem<'_>,
+    cut: &Cut,
     allowance: u32,
     kept: &mut Sets,
     best: &mut WideSet,
 ) -> u32
-    requires posed { Posed from.now to.now ins.now on.now ws.now us.now vs.now }
-    requires made { (Made ws.now (cut_at chosen.now weight)) × (weight + allowance < most_weight) }
-    ensures picked { Picked ws.now (Apart from.now to.now (rows fits.now) us.now vs.now) (cut_at chosen.now weight) (weight + allowance) (cut_at best.new result) }
-    ensures best_unchanged { result ≡ weight + allowance → best.new ≡ best.old }
+    requires { Made (costs problem.now) (cut_of cut.now) × (cut.now.weight + allowance < most_weight) }
+    ensures picked { Picked (costs problem.now) (Parted problem.now) (cut_of cut.now) (cut.now.weight + allowance) (cut_at best.new result) }
+    ensures best_unchanged { result ≡ cut.now.weight + allowance → best.new ≡ best.old }
 {
-    let mut found = weight + allowance;
-    let b = level_of(from, to, ins, on, fits, ws, us, vs, chosen, allowance, kept);
-    let sum = b.sum;
-    if allowance <= sum {
+    let mut found = cut.weight + allowance;
+    let level = level_of(problem, &cut.chosen, allowance, kept);
+    if allowance <= level.sum {
         return found;
     }
-    if b.len == 0 {
-        *best = *chosen;
-        return weight;
-    }
-    let n = ws.len();
-    for e in 0..n {
-        if has(&b.route, e) {
-            let w = wider(ws[e]);
-            if weight + w < found {
-                let next = Cut::of(chosen, weight).with_edge(e, w);
-                let t = &next.chosen;
-                let h = next.weight;
-                let more = found - h;
-                let c = least(from, to, ins, on, fits, ws, us, vs, t, h, more, kept, best);
-                let d = heavier_by(c, found);
-                if d < 0 {
-                    found = c;
-                    if found == weight + sum {
-                        return found;
-                    }
+    let Some(route) = &level.route else {
+        *best = cut.chosen;
+        return cut.weight;
+    };
+    for (e, edge) in problem.net.edges.iter().enumerate() {
+        let w = u32::from(edge.weight);
+        if has(route, e) && cut.weight + w < found {
+            let next = cut.with_edge(e, w);
+            let more = found - next.weight;
+            let c = least(problem, &next, more, kept, best);
+            if lighter(c, found) {
+                found = c;
+                if found == cut.weight + level.sum {
+                    return found;
                 }
             }
         }
@@ -123,78 +102,44 @@ fn least(
 
 // A cut, found quickly: of a route that the edges so far miss it takes the edge of which the whole packing leaves the least. An allowance of 1
 // ends a bound with its first route.
-fn first_cut(
-    from: &[u16],
-    to: &[u16],
-    ins: &[u16; Graph::NODES + Graph::EDGES],
-    on: &[u16; Graph::NODES + Graph::EDGES],
-    fits: &Sets,
-    ws: &[u16],
-    us: &[u16],
-    vs: &[u16],
-    left: &[u16; Graph::EDGES],
-    kept: &mut Sets,
-) -> Cut
-    requires { Posed from.now to.now ins.now on.now ws.now us.now vs.now }
-    ensures { Made ws.now (cut_of result) × Apart from.now to.now (rows fits.now) us.now vs.now (edges_of result.chosen) }
+fn first_cut(problem: &Problem<'_>, left: &[u16; Graph::EDGES], kept: &mut Sets) -> Cut
+    ensures { Made (costs problem.now) (cut_of result) × Parted problem.now (edges_of result.chosen) }
 {
-    let mut c = Cut::empty();
+    let mut cut = Cut::empty();
     loop {
-        let b = bound(from, to, ins, on, fits, ws, us, vs, &c.chosen, 1, kept);
-        let n = b.route.len;
-        if n == 0 {
-            return c;
-        }
-        let e = tightest(&b.route.edges, n, left);
-        c = c.with_edge(e, wider(ws[e]));
+        let packing = bound(problem, &cut.chosen, 1, kept);
+        let Some(e) = tightest(&packing.route, left) else {
+            return cut;
+        };
+        cut = cut.with_edge(e, u32::from(problem.net.edges[e].weight));
     }
 }
 
 // The chosen cut: first some cut, then a lightest one, then its list, edge by edge: an earlier edge is taken where some cut as light goes on
-// from it.
-pub fn best(
-    from: &[u16],
-    to: &[u16],
-    ins: &[u16; Graph::NODES + Graph::EDGES],
-    on: &[u16; Graph::NODES + Graph::EDGES],
-    fits: &Sets,
-    ws: &[u16],
-    us: &[u16],
-    vs: &[u16],
-    kept: &mut Sets,
-) -> Cut
-    requires { Posed from.now to.now ins.now on.now ws.now us.now vs.now }
-    ensures { Made ws.now (cut_of result) × Least ws.now (Apart from.now to.now (rows fits.now) us.now vs.now) (edges_of result.chosen) }
+// from it. The table is lent to the search, whatever it has.
+pub fn best(problem: &Problem<'_>, kept: &mut Sets) -> Cut
+    ensures made { Made (costs problem.now) (cut_of result) }
+    ensures least { Least (costs problem.now) (Parted problem.now) (edges_of result.chosen) }
 {
-    let mut k = Cut::empty();
-    let s = k.chosen;
-    let m = ABOVE;
-    let b = bound(from, to, ins, on, fits, ws, us, vs, &s, m, kept);
-    let first = first_cut(from, to, ins, on, fits, ws, us, vs, &b.left, kept);
-    let mut c = first.chosen;
-    let m = first.weight;
-    let weight = least(from, to, ins, on, fits, ws, us, vs, &s, 0, m, kept, &mut c);
-    let n = ws.len();
-    let mut e = 0;
-    while e < n {
-        let w = wider(ws[e]);
-        if has(&c, e) {
-            k = k.with_edge(e, w);
-        } else {
-            if k.weight + w <= weight {
-                if wider(b.left[e]) <= weight - b.sum {
-                    let next = k.with_edge(e, w);
-                    let t = &next.chosen;
-                    let h = next.weight;
-                    let m = weight + 1 - h;
-                    let d = least(from, to, ins, on, fits, ws, us, vs, t, h, m, kept, &mut c);
-                    if d <= weight {
-                        k = next;
-                    }
-                }
+    let empty = Cut::empty();
+    let packing = bound(problem, &empty.chosen, ABOVE, kept);
+    let first = first_cut(problem, &packing.left, kept);
+    let mut chosen = first.chosen;
+    let weight = least(problem, &empty, first.weight, kept, &mut chosen);
+    let slack = weight - packing.sum;
+    let mut fixed = empty;
+    for (e, edge) in problem.net.edges.iter().enumerate() {
+        let w = u32::from(edge.weight);
+        if has(&chosen, e) {
+            fixed = fixed.with_edge(e, w);
+        } else if fixed.weight + w <= weight && u32::from(packing.left[e]) <= slack {
+            let next = fixed.with_edge(e, w);
+            let more = weight + 1 - next.weight;
+            let found = least(problem, &next, more, kept, &mut chosen);
+            if found <= weight {
+                fixed = next;
             }
         }
-        e += 1;
     }
-    Cut { chosen: c, weight }
+    Cut { chosen, weight }
 }

@@ -1,12 +1,10 @@
 -- What a file that is read gives: one request, no refusal of its records, and a graph by value that is ready.
 -- Assumes nothing.
 use mathlib.Core.List.{List, ◌++◌}
-use mathlib.Core.Path.{◌∙◌, ◌≡◌, ap, ap₂, refl, sym}
+use mathlib.Core.Path.{◌∙◌, ◌≡◌, ap, refl, sym}
 use Prim.Native.Nat.{ℕ}
 use native.Mathlib.Omega.{arith}
-use lib.ListN.{drop, take, length}
-use Rattle.graph.specs.declared.Order.{Order}
-use Rattle.graph.specs.declared.Rule.{Rule}
+use lib.ListN.{drop, length}
 use Rattle.request.specs.declared.Answer.{Answer}
 use Rattle.outcome.specs.Outcome.{over, with_graph}
 use Rattle.fencing.specs.Kept.{Kept}
@@ -36,6 +34,6 @@ written_over {before} {after} {xs} {n} w = let e : n ≡ length xs = omega (arit
 pub kept_request : (g h : Value.Graph) → Kept g h → (w : Graph) → graph_of h ≡ w → request_in h ≡ with_graph (request_in g) w
 kept_request g h kept w e = λ i. record {
   graph = e i;
-  rules = ap₂ (λ (n : ℕ) (l : List Rule). take n l) kept.rule_count kept.rules i;
-  orders = ap₂ (λ (n : ℕ) (l : List Order). take n l) kept.order_count kept.orders i;
+  rules = ap (λ (l : _). l.items) kept.rules i;
+  orders = ap (λ (l : _). l.items) kept.orders i;
 }

@@ -2,20 +2,20 @@
 -- Assumes nothing.
 use mathlib.Core.List.{List}
 use mathlib.Core.Logic.{◌⊎◌, inl, inr}
-use mathlib.Core.Path.{◌≡◌, ap, refl, subst}
+use mathlib.Core.Path.{◌≡◌, ap, refl}
 use Prim.Native.Nat.{◌≤◌, ℕ}
 use native.Mathlib.Omega.{arith}
 use lib.ListN.{length}
 use Rattle.outcome.specs.declared.Report.{Report}
 use Rattle.outcome.specs.declared.Shown.{Shown}
 use Rattle.request.specs.declared.Answer.{Answer}
-use Rattle.request.specs.declared.Reading.{Reading}
+use Rattle.request.specs.declared.Refusal.{Refusal}
+use Rattle.std.specs.Prelude.{Err}
 use Rattle.outcome.specs.Outcome.{AskBad, AskOutcome, RunBad, RunOutcome, StripBad, StripOutcome, accepted, in_file, no_such_order, no_room, not_loose, refusal, refused, too_short, unshown}
 use Rattle.graph.specs.Refusal.{Refused}
 use Rattle.request.specs.Answers.{rank}
 use Rattle.request.specs.Bad.{Bad, beyond, unfenced, unread, wrong_edge, wrong_node, wrong_order, wrong_rule}
 use Rattle.request.specs.Outcome.{Answered}
-use Rattle.request.specs.declared.Reading.TheVariants as reading
 
 -- the answers of a file's records are 1 to 7
 bad_rank : {s : List ℕ} {a : Answer} {p : ℕ} → Bad s a p → rank a ≤ 6
@@ -43,28 +43,25 @@ module _ (s : List ℕ) (B : Answer → ℕ → Type 0) (of-file : (a : Answer) 
       early q (inl x) = r.earliest q x
       early q (inr x) = absurd (let z : ⊥ = omega (arith, six) in z)
 
-module _ (s o : List ℕ) (x : Reading) (a : Answer) (p : ℕ) (e : x ≡ reading.Refused a p) (l : Answered s x) where
-  told : Refused rank (Bad s) a p
-  told = subst (Answered s) e l
-
-  pub run_refused : (r : Report) → r ≡ refusal a p → RunOutcome s o r o
-  run_refused r q = refused a p (file_refused s (RunBad s (length o)) (λ b i y. in_file y) later told) q refl
+module _ {s : List ℕ} {e : Refusal} (l : Answered s (Err e)) (o : List ℕ) where
+  pub run_refused : RunOutcome s o (refusal e.answer e.place) o
+  run_refused = refused e.answer e.place (file_refused s (RunBad s (length o)) (λ b i y. in_file y) later l) refl refl
     where
       later : (b : Answer) (i : ℕ) → RunBad s (length o) b i → Bad s b i ⊎ (7 ≤ rank b)
       later b i (in_file y) = inl y
       later b i (no_room k c y z w) = inr (omega arith)
       later b i (too_short k c y z w) = inr (omega arith)
 
-  pub ask_refused : (k : ℕ) (r : Shown) → r ≡ unshown a p → AskOutcome s k o r o
-  ask_refused k r q = refused a p (file_refused s (AskBad s k (length o)) (λ b i y. in_file y) later told) q refl
+  pub ask_refused : (k : ℕ) → AskOutcome s k o (unshown e.answer e.place) o
+  ask_refused k = refused e.answer e.place (file_refused s (AskBad s k (length o)) (λ b i y. in_file y) later l) refl refl
     where
       later : (b : Answer) (i : ℕ) → AskBad s k (length o) b i → Bad s b i ⊎ (7 ≤ rank b)
       later b i (in_file y) = inl y
       later b i (no_such_order q y z) = inr (omega arith)
       later b i (too_short y) = inr (omega arith)
 
-  pub strip_refused : (c : ℕ) (r : Report) → r ≡ refusal a p → StripOutcome s c o r o
-  strip_refused c r q = refused a p (file_refused s (StripBad s c (length o)) (λ b i y. in_file y) later told) q refl
+  pub strip_refused : (c : ℕ) → StripOutcome s c o (refusal e.answer e.place) o
+  strip_refused c = refused e.answer e.place (file_refused s (StripBad s c (length o)) (λ b i y. in_file y) later l) refl refl
     where
       later : (b : Answer) (i : ℕ) → StripBad s c (length o) b i → Bad s b i ⊎ (7 ≤ rank b)
       later b i (in_file y) = inl y

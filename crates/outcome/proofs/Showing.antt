@@ -10,17 +10,17 @@ use lib.Seq.{append_snoc, drop-cons, length-take-le, set_at, take-suc}
 use Rattle.outcome.specs.declared.Shown.{Shown}
 use Rattle.request.specs.declared.Answer.{Answer}
 use Rattle.request.specs.declared.Answer.TheVariants.{NoSuchOrder, ShortBuffer}
-use Rattle.outcome.specs.Outcome.{AskBad, AskOutcome, accepted, in_file, no_such_order, over, refused, too_short}
+use Rattle.outcome.specs.Outcome.{AskBad, AskOutcome, accepted, in_file, no_such_order, over, refused, too_short, unshown}
 use Rattle.graph.specs.Ask.{Asked}
 use Rattle.graph.specs.Graph.{order}
 use Rattle.graph.specs.Limits.{most_nodes}
-use Rattle.request.specs.Answers.{number, rank}
+use Rattle.request.specs.Answers.{rank}
 use Rattle.request.specs.File.{Request}
 use Rattle.outcome.proofs.Reading.{reads_clean, reads_unique}
 use Rattle.request.specs.Proper.{Reads}
 
 module _ (s : List ℕ) (q : Request) (k : ℕ) (reads : Reads s q) (before : List ℕ) where
-  pub ask_number : length q.orders ≤ k → AskOutcome s k before (record { answer = number NoSuchOrder; place = 0; length = 0 }) before
+  pub ask_number : length q.orders ≤ k → AskOutcome s k before (unshown NoSuchOrder 0) before
   ask_number h = refused NoSuchOrder 0 record { bad = no_such_order q reads h; lowest = low; earliest = λ p b. omega arith } refl refl
     where
       low : (a : Answer) (p : ℕ) → AskBad s k (length before) a p → rank NoSuchOrder ≤ rank a
@@ -32,7 +32,7 @@ module _ (s : List ℕ) (q : Request) (k : ℕ) (reads : Reads s q) (before : Li
     not_missing : (r : Request) → Reads s r → length r.orders ≤ k → ⊥
     not_missing r x y = let e : length r.orders ≡ length q.orders = ap (λ (z : Request). length z.orders) (reads_unique x reads) in omega arith
 
-    pub ask_short : length before < most_nodes → AskOutcome s k before (record { answer = number ShortBuffer; place = 0; length = 0 }) before
+    pub ask_short : length before < most_nodes → AskOutcome s k before (unshown ShortBuffer 0) before
     ask_short h = refused ShortBuffer 0 record { bad = too_short h; lowest = low; earliest = λ p b. omega arith } refl refl
       where
         low : (a : Answer) (p : ℕ) → AskBad s k (length before) a p → rank ShortBuffer ≤ rank a

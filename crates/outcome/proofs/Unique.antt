@@ -7,13 +7,11 @@ use Rattle.outcome.specs.declared.Report.{Report}
 use Rattle.outcome.specs.declared.Shown.{Shown}
 use Rattle.graph.specs.declared.Order.{Order}
 use Rattle.graph.specs.declared.Rule.{Rule}
-use Rattle.request.specs.declared.Answer.{Answer}
-use Rattle.outcome.specs.Outcome.{AskOutcome, RunOutcome, StripOutcome, accepted, refusal, refused}
+use Rattle.outcome.specs.Outcome.{AskOutcome, RunOutcome, StripOutcome, accepted, refusal, refused, unshown}
 use Rattle.graph.specs.Ask.{Asked}
 use Rattle.graph.specs.Cut.{ChosenCut}
 use Rattle.graph.specs.Graph.{Graph, Sound, order}
 use Rattle.graph.specs.Strip.{StripTo}
-use Rattle.request.specs.Answers.{number}
 use Rattle.request.specs.File.{Request}
 use Rattle.outcome.proofs.Reading.{reads_unique}
 use Rattle.graph.proofs.Strip.{stripped_unique}
@@ -37,7 +35,7 @@ run_unique {o = o} (accepted q c z w n e f) (accepted k d z' w' n' g h) =
 pub ask_unique : {s : List ℕ} {k : ℕ} {o : List ℕ} {r t : Shown} {x y : List ℕ} → AskOutcome s k o r x → AskOutcome s k o t y → (r ≡ t) × (x ≡ y)
 ask_unique (refused a p b e f) (refused c q d g h) =
     let u = refused_unique rank_apart b d in
-    (e ∙ ap₂ (λ (z : Answer) (w : ℕ). record { answer = number z; place = w; length = 0 }) u.0 u.1 ∙ sym g, f ∙ sym h)
+    (e ∙ ap₂ unshown u.0 u.1 ∙ sym g, f ∙ sym h)
 ask_unique (refused a p b e f) (accepted q c z w n g h) = absurd (n a p b.bad)
 ask_unique (accepted q c z w n g h) (refused a p b e f) = absurd (n a p b.bad)
 ask_unique {k = i} {o = o} (accepted q c z w n e f) (accepted k d z' w' n' g h) =

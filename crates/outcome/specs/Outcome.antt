@@ -1,9 +1,10 @@
 -- What run, ask and strip return and leave in the lent buffer, for every input.
 -- Assumes nothing.
-use Rattle.std.specs.Prelude.{List, ◌++◌, ◌⊎◌, ◌≡◌, ◌+◌, ◌-◌, ◌<◌, ◌≤◌, ℕ, drop, length}
+use Rattle.std.specs.Prelude.{Err, List, Ok, Result, ◌++◌, ◌⊎◌, ◌≡◌, ◌+◌, ◌-◌, ◌<◌, ◌≤◌, ℕ, drop, length}
 use Rattle.outcome.specs.declared.Report.{Report}
 use Rattle.outcome.specs.declared.Shown.{Shown}
 use Rattle.request.specs.declared.Answer.{Answer}
+use Rattle.request.specs.declared.Refusal.{Refusal}
 use Rattle.request.specs.declared.Answer.TheVariants.{NoRoom, NoSuchOrder, NotLoose, ShortBuffer}
 use Rattle.graph.specs.Ask.{Asked}
 use Rattle.graph.specs.Cut.{ChosenCut, weight}
@@ -45,6 +46,11 @@ pub data RunBad (s : List ℕ) (room : ℕ) : Answer → ℕ → Type 0 where
 abbrev pub refusal : Answer → ℕ → Report
 refusal a p = record { answer = number a; place = p; fences = 0; weight = 0; length = 0 }
 
+-- what is returned where an operation succeeds or is refused
+abbrev pub reported : Result Report Refusal → Report
+reported (Ok r) = r
+reported (Err e) = refusal e.answer e.place
+
 -- "Run and strip return: answer, place, fences, weight, length written."
 pub data RunOutcome (s before : List ℕ) (r : Report) (after : List ℕ) : Type 0 where
   refused : (a : Answer) (p : ℕ) → Refused rank (RunBad s (length before)) a p → r ≡ refusal a p → after ≡ before → RunOutcome s before r after
@@ -57,6 +63,11 @@ pub data RunOutcome (s before : List ℕ) (r : Report) (after : List ℕ) : Type
 -- the same of ask
 abbrev pub unshown : Answer → ℕ → Shown
 unshown a p = record { answer = number a; place = p; length = 0 }
+
+-- what ask returns where it succeeds or is refused
+abbrev pub told : Result Shown Refusal → Shown
+told (Ok r) = r
+told (Err e) = unshown e.answer e.place
 
 -- which of ask's answers apply where: 1 to 8 and 11
 pub data AskBad (s : List ℕ) (k room : ℕ) : Answer → ℕ → Type 0 where

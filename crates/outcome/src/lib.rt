@@ -2,12 +2,11 @@
 #![tactic(auto)]
 
 ghost use Rattle.std.specs.Prelude.{◌≡◌};
-ghost use Rattle.request.specs.Answers.{number};
-ghost use Rattle.outcome.specs.Outcome.{refusal};
+ghost use Rattle.outcome.specs.Outcome.{refusal, unshown};
 
-use request::{Answer, number};
+use request::Refusal;
 
-// What run and strip return.
+// What run and strip return. This is what C sees, so the answer is a number: 0 is none.
 #[repr(C)]
 #[derive(Clone, Copy)]
 pub struct Report {
@@ -18,7 +17,22 @@ pub struct Report {
     pub length: u64,
 }
 
-// What ask returns.
+impl Report {
+    // What is returned where the operation is not refused.
+    pub fn done(fences: u64, weight: u64, length: u64) -> Report
+        ensures { result ≡ record { answer = 0; place = 0; fences = fences; weight = weight; length = length } }
+    {
+        Report {
+            answer: 0,
+            place: 0,
+            fences,
+            weight,
+            length,
+        }
+    }
+}
+
+// What ask returns. This is what C sees, so the answer is a number: 0 is none.
 #[repr(C)]
 #[derive(Clone, Copy)]
 pub struct Shown {
@@ -27,24 +41,40 @@ pub struct Shown {
     pub length: u64,
 }
 
-pub fn refused(a: Answer, place: usize) -> Report
-    ensures { result ≡ refusal a place }
-{
-    Report {
-        answer: number(a),
-        place: place as u64,
-        fences: 0,
-        weight: 0,
-        length: 0,
+impl Shown {
+    pub fn done(length: u64) -> Shown
+        ensures { result ≡ record { answer = 0; place = 0; length = length } }
+    {
+        Shown {
+            answer: 0,
+            place: 0,
+            length,
+        }
     }
 }
 
-pub fn unshown(a: Answer, place: usize) -> Shown
-    ensures { result ≡ record { answer = number a; place = place; length = 0 } }
-{
-    Shown {
-        answer: number(a),
-        place: place as u64,
-        length: 0,
+impl From<Refusal> for Report {
+    ghost from_gives = { λ e r. r ≡ refusal e.answer e.place };
+
+    fn from(e: Refusal) -> Report {
+        Report {
+            answer: u64::from(e.answer),
+            place: e.place as u64,
+            fences: 0,
+            weight: 0,
+            length: 0,
+        }
+    }
+}
+
+impl From<Refusal> for Shown {
+    ghost from_gives = { λ e r. r ≡ unshown e.answer e.place };
+
+    fn from(e: Refusal) -> Shown {
+        Shown {
+            answer: u64::from(e.answer),
+            place: e.place as u64,
+            length: 0,
+        }
     }
 }

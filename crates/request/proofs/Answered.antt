@@ -8,8 +8,9 @@ use lib.ListN.{length, length-map}
 use Rattle.request.specs.declared.Answer.{Answer}
 use Rattle.request.specs.declared.Counts.{Counts}
 use Rattle.request.specs.declared.Mark.TheVariants.{Nd, Ed, Ru, Or}
-use Rattle.request.specs.declared.Reading.{Reading}
-use Rattle.request.specs.declared.Reading.TheVariants.{Refused, Whole}
+use Rattle.request.specs.declared.Refusal.{Refusal}
+use Rattle.std.specs.Prelude.{Result, Ok, Err}
+use Rattle.request.specs.Answers.{refused}
 use Rattle.graph.specs.Graph.{no_edge}
 use Rattle.request.specs.Bad.{Bad, no_node}
 use Rattle.request.specs.Decode.{counts_of_raw, label_of_node, raw_label, raw_rule, raw_of, rawed, records_in, request_of, rule_of, understood}
@@ -97,20 +98,20 @@ clean_holds s cs h f c = record {
 }
 
 -- what the reader computes is what document 01 says
-pub answered : (s : List ℕ) (r : Reading) → Bytes s → r ≡ reading_of s → Answered s r
+pub answered : (s : List ℕ) (r : Result Counts Refusal) → Bytes s → r ≡ reading_of s → Answered s r
 answered s r h e = go r (subst (Judged s) (sym e) (judged s h))
   where
-    go : (x : Reading) → Judged s x → Answered s x
-    go (Whole cs) j = (request_of s cs, clean_holds s cs h j.1 j.2)
-    go (Refused a p) j = j
+    go : (x : Result Counts Refusal) → Judged s x → Answered s x
+    go (Ok cs) j = (request_of s cs, clean_holds s cs h j.1 j.2)
+    go (Err e) j = j
 
 -- and there is no second outcome
-pub answered_unique : (s : List ℕ) (x y : Reading) → Answered s x → Answered s y → x ≡ y
-answered_unique s (Whole c) (Whole d) (r, H) (q, K) = ap Whole (holds_counts s c r H ∙ sym (holds_counts s d q K))
-answered_unique s (Whole c) (Refused a p) (r, H) R = absurd (holds_clean s c r H R.bad)
-answered_unique s (Refused a p) (Whole d) R (q, K) = absurd (holds_clean s d q K R.bad)
-answered_unique s (Refused a p) (Refused b q) R K = let u = refused_unique rank_apart R K in ap₂ Refused u.0 u.1
+pub answered_unique : (s : List ℕ) (x y : Result Counts Refusal) → Answered s x → Answered s y → x ≡ y
+answered_unique s (Ok c) (Ok d) (r, H) (q, K) = ap Ok (holds_counts s c r H ∙ sym (holds_counts s d q K))
+answered_unique s (Ok c) (Err e) (r, H) R = absurd (holds_clean s c r H R.bad)
+answered_unique s (Err e) (Ok d) R (q, K) = absurd (holds_clean s d q K R.bad)
+answered_unique s (Err e) (Err f) R K = let u = refused_unique rank_apart R K in ap₂ refused u.0 u.1
 
 -- the bytes of a proper request are accepted; the contract itself says that nothing else is
-pub answered_whole : (s : List ℕ) (x : Reading) (r : Request) → s ≡ bytes r → Proper r → Answered s x → x ≡ Whole (counts_of r)
-answered_whole s x r e P A = answered_unique s x (Whole (counts_of r)) A (r, record { is_bytes = e; proper = P; counts = refl })
+pub answered_whole : (s : List ℕ) (x : Result Counts Refusal) (r : Request) → s ≡ bytes r → Proper r → Answered s x → x ≡ Ok (counts_of r)
+answered_whole s x r e P A = answered_unique s x (Ok (counts_of r)) A (r, record { is_bytes = e; proper = P; counts = refl })

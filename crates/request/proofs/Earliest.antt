@@ -1,7 +1,8 @@
 -- The earliest number that passes a test, and whether some number does.
 -- Assumes nothing.
-use mathlib.Core.Bool.{Bool, false, or-true, true}
-use mathlib.Core.Path.{◌∙◌, ◌≡◌, refl, sym}
+use mathlib.Core.Bool.{Bool, ◌||◌, false, true}
+use mathlib.Core.Path.{◌∙◌, ◌≡◌, ap, refl}
+use Rattle.std.specs.List.{list_any, range_with_len}
 use Prim.Native.Nat.{◌+◌, ◌<◌, ◌≤◌, suc, zero, ℕ}
 use native.Mathlib.Decide.{ℕ_discrete}
 use native.Mathlib.Omega.{arith}
@@ -28,22 +29,17 @@ earliest_none p n f = earliest_from_none p n 0 (λ k h. f k (omega arith)) ∙ o
 
 -- ---- some number passes a test
 
-pub any_yes : (p : ℕ → Bool) (n j : ℕ) → j < n → p j ≡ true → any p n ≡ true
+swap : (a b c : Bool) → (a || (b || c)) ≡ (b || (a || c))
+swap true true c = refl
+swap true false c = refl
+swap false b c = refl
+
+any_top : (p : ℕ → Bool) (a n j : ℕ) → a + n ≡ j → list_any p (range_with_len a (suc n)) ≡ (p j || list_any p (range_with_len a n))
+any_top p a zero j e = let q : a ≡ j = omega (arith, e) in rw q refl
+any_top p a (suc n) j e = rw (any_top p (a + 1) n j (omega (arith, e))) (swap (p a) (p j) (list_any p (range_with_len (a + 1) n)))
+
+-- the numbers below n as a list
+pub any_listed : (p : ℕ → Bool) (n : ℕ) → list_any p (range_with_len 0 n) ≡ any p n
 unfolding any
-any_yes p zero j l e = absurd (omega arith)
-any_yes p (suc n) j l e = elim (ℕ_discrete j n) [
-  | yes q ↦ rw (← q, e) refl
-  | no q ↦ rw (any_yes p n j (omega (arith, q)) e) (or-true (p n))
-]
-
-pub any_no : (p : ℕ → Bool) (n : ℕ) → ((k : ℕ) → k < n → p k ≡ false) → any p n ≡ false
-unfolding any
-any_no p zero f = refl
-any_no p (suc n) f = rw (f n (omega arith)) (any_no p n (λ k h. f k (omega arith)))
-
--- a loop that looks at each number in turn and has looked at all n
-pub earliest-end : (p : ℕ → Bool) (n i : ℕ) → i ≤ n → n ≤ i → ((k : ℕ) → k < i → p k ≡ false) → i ≡ earliest p n
-earliest-end p n i a b f = sym (earliest_none p n (λ k h. f k (omega arith)) ∙ omega arith)
-
-pub any-end : (p : ℕ → Bool) (n i : ℕ) → i ≤ n → n ≤ i → ((k : ℕ) → k < i → p k ≡ false) → false ≡ any p n
-any-end p n i a b f = sym (any_no p n (λ k h. f k (omega arith)))
+any_listed p zero = refl
+any_listed p (suc n) = any_top p 0 n n (omega arith) ∙ ap (λ (b : Bool). p n || b) (any_listed p n)

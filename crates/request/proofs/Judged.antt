@@ -15,8 +15,9 @@ use Rattle.request.specs.declared.Check.TheVariants.{Fenceless, Many, Wrong}
 use Rattle.request.specs.declared.Counts.{Counts}
 use Rattle.request.specs.declared.Mark.{Mark}
 use Rattle.request.specs.declared.Mark.TheVariants.{Ed, Nd, Or, Ru}
-use Rattle.request.specs.declared.Reading.{Reading}
-use Rattle.request.specs.declared.Reading.TheVariants.{Refused, Whole}
+use Rattle.request.specs.declared.Refusal.{Refusal}
+use Rattle.std.specs.Prelude.{Result, Ok, Err}
+use Rattle.request.specs.Answers.{refused}
 use Rattle.request.specs.Answers.{rank}
 use Rattle.request.specs.Bad.{Bad, Listed, Unfenced, Unread, WrongEdge, WrongNode, WrongOrder, WrongRule, no_node, no_rule}
 use Rattle.request.specs.Decode.{raw_of, records_in}
@@ -34,15 +35,15 @@ use Rattle.request.proofs.Tests.{says_edge, says_leads, says_node, says_order, s
 use Rattle.request.proofs.Unread.{refused_unread, unread_more, unread_stop, whole-file}
 use Rattle.graph.specs.Refusal as refusal
 
-abbrev pub Judged : List ℕ → Reading → Type 0
-Judged s (Whole cs) = (cs ≡ counts_in s) × (s ≡ file (raw_of s cs)) × Clean (raw_of s cs)
-Judged s (Refused a p) = refusal.Refused rank (Bad s) a p
+abbrev pub Judged : List ℕ → Result Counts Refusal → Type 0
+Judged s (Ok cs) = (cs ≡ counts_in s) × (s ≡ file (raw_of s cs)) × Clean (raw_of s cs)
+Judged s (Err e) = refusal.Refused rank (Bad s) e.answer e.place
 
 module _ (s : List ℕ) (cs : Counts) (C : cs ≡ counts_in s) (F : s ≡ file (raw_of s cs)) where
   abbrev w : Raw
   w = raw_of s cs
 
-  refuse : (a : Answer) (p : ℕ) → reading_of s ≡ Refused a p → Fault w a p
+  refuse : (a : Answer) (p : ℕ) → reading_of s ≡ refused a p → Fault w a p
       → ((b : Answer) (q : ℕ) → Fault w b q → rank a ≤ rank b) → ((q : ℕ) → Fault w a q → p ≤ q) → Judged s (reading_of s)
   refuse a p e b l f =
       subst (Judged s) (sym e) (record { bad = fault_bad s w F a p b; lowest = λ x q y. l x q (bad_fault s w F y); earliest = λ q y. f q (bad_fault s w F y) })
@@ -178,12 +179,12 @@ module _ (s : List ℕ) (cs : Counts) (C : cs ≡ counts_in s) (F : s ≡ file (
 pub judged : (s : List ℕ) → Bytes s → Judged s (reading_of s)
 judged s h = go (record_at 69 78 2 s (end_of (counts_in s))) refl (ℕ_discrete (end_of (counts_in s) + 2) (length s))
   where
-    unread : (p : ℕ) → layout_of s ≡ Refused Unreadable p → Unread s p → Judged s (reading_of s)
-    unread p e u = subst (Judged s) (sym (read_1 s Unreadable p e)) (refused_unread s p u)
+    unread : (p : ℕ) → layout_of s ≡ refused Unreadable p → Unread s p → Judged s (reading_of s)
+    unread p e u = subst (Judged s) (sym (read_1 s e)) (refused_unread s p u)
 
     go : (c : Bool) → record_at 69 78 2 s (end_of (counts_in s)) ≡ c → Dec (end_of (counts_in s) + 2 ≡ length s) → Judged s (reading_of s)
     go true r (yes l) =
         let C = counts_in s in let F = whole-file s h r l in
         judge s C refl F all_checks (chained s C refl F) (faults s C refl F) (read_2 s C (end_whole s refl refl r l))
-    go true r (no l) = unread (end_of (counts_in s) + 2) (end_more s refl refl r l) (unread_more s h r l)
+    go true r (no l) = unread (end_of (counts_in s) + 2) (end_more s refl refl r l refl) (unread_more s h r l)
     go false r d = unread (end_of (counts_in s)) (end_stop s refl refl r) (unread_stop s h r)

@@ -6,7 +6,7 @@ use Prim.Native.Nat.{ℕ}
 use lib.ListN.{drop, replicate, take}
 use Rattle.graph.specs.declared.Label.TheVariants.{Fence}
 use Rattle.request.specs.declared.Answer.TheVariants.{BadOrder, NoFenceRules, TooMany, Unreadable}
-use Rattle.request.specs.declared.Reading.TheVariants.{Refused}
+use Rattle.request.specs.Answers.{refused}
 use Rattle.graph.specs.Samples.{d_of, d_orders, d_rules, fence_rules, or}
 use Rattle.request.specs.File.{Request, bytes, request}
 use Rattle.request.specs.Layout.{count_in, end_check, in_row, record_at}
@@ -38,10 +38,10 @@ many = bytes (request (record { nodes = replicate 513 Fence; edges = [] }) fence
 -- "unknown or misplaced mark, record cut short, no EN, bytes after EN": the empty file, a byte short of EN, an ND after the orders, a byte after EN
 -- "513 nodes: 2", at the first beyond 512
 pub samples-refused :
-    (Answered again (Refused BadOrder 14) × Answered equal (Refused BadOrder 14) × Answered one_way (Refused NoFenceRules 0))
-    × (Answered [] (Refused Unreadable 0) × Answered (take 83 (bytes D)) (Refused Unreadable 82))
-    × (Answered misplaced (Refused Unreadable 82) × Answered (bytes D ++ (0 ∷ [])) (Refused Unreadable 84))
-    × Answered many (Refused TooMany 512)
+    (Answered again (refused BadOrder 14) × Answered equal (refused BadOrder 14) × Answered one_way (refused NoFenceRules 0))
+    × (Answered [] (refused Unreadable 0) × Answered (take 83 (bytes D)) (refused Unreadable 82))
+    × (Answered misplaced (refused Unreadable 82) × Answered (bytes D ++ (0 ∷ [])) (refused Unreadable 84))
+    × Answered many (refused TooMany 512)
 unfolding bytes flat_map reading_of end_check record_at in_row count_in listed checked no_fences
     bad_node bad_edge same_pair repeated bad_left bad_right bad_rule bad_order leads earliest_from any
 samples-refused = (

@@ -8,8 +8,10 @@ use native.Mathlib.Decide.{ℕ_discrete}
 use native.Mathlib.Omega.{arith}
 use lib.Dec.{T}
 use Rattle.request.specs.declared.Answer.{Answer}
-use Rattle.request.specs.declared.Reading.{Reading}
-use Rattle.request.specs.declared.Reading.TheVariants.{Refused}
+use Rattle.request.specs.declared.Counts.{Counts}
+use Rattle.request.specs.declared.Refusal.{Refusal}
+use Rattle.std.specs.Prelude.{Result}
+use Rattle.request.specs.Answers.{refused}
 use Rattle.request.specs.Bad.{Listed}
 use Rattle.request.specs.Earliest.{earliest}
 use Rattle.request.specs.Tables.{listed}
@@ -38,11 +40,11 @@ find p B (suc n) s = go (find p B n (λ i h. s i (omega arith))) (p n) refl (s n
     go (inr f) true q t = inl (n, omega arith, q, t.so (subst T (sym q) tt), f)
     go (inr f) false q t = inr (λ k h. all f q (λ x. subst T q (t.back x)) k h (ℕ_discrete k n))
 
-pub data Stage (answer : Answer) (start n : ℕ) (B : ℕ → Type 0) (later r : Reading) : Type 0 where
-  refuses : (q : ℕ) → r ≡ Refused answer q → Listed start n B q → ((x : ℕ) → Listed start n B x → q ≤ x) → Stage answer start n B later r
+pub data Stage (answer : Answer) (start n : ℕ) (B : ℕ → Type 0) (later r : Result Counts Refusal) : Type 0 where
+  refuses : (q : ℕ) → r ≡ refused answer q → Listed start n B q → ((x : ℕ) → Listed start n B x → q ≤ x) → Stage answer start n B later r
   passes : r ≡ later → ((i : ℕ) → i < n → B i → ⊥) → Stage answer start n B later r
 
-pub stage : (answer : Answer) (start n : ℕ) (p : ℕ → Bool) (B : ℕ → Type 0) (later : Reading) → ((i : ℕ) → i < n → Says (p i) (B i))
+pub stage : (answer : Answer) (start n : ℕ) (p : ℕ → Bool) (B : ℕ → Type 0) (later : Result Counts Refusal) → ((i : ℕ) → i < n → Says (p i) (B i))
     → Stage answer start n B later (listed answer start (earliest p n) n later)
 stage answer start n p B later s = go (find p B n s)
   where

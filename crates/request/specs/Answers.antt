@@ -1,8 +1,10 @@
 -- The refusals: their numbers, and which comes before which.
 -- Assumes nothing.
-use Rattle.std.specs.Prelude.{ℕ}
+use Rattle.std.specs.Prelude.{Err, Result, ℕ}
 use Rattle.request.specs.declared.Answer.{Answer}
 use Rattle.request.specs.declared.Answer.TheVariants.{Unreadable, TooMany, BadNode, BadEdge, BadRule, BadOrder, NoFenceRules, NoSuchOrder, NoRoom, NotLoose, ShortBuffer}
+use Rattle.request.specs.declared.Counts.{Counts}
+use Rattle.request.specs.declared.Refusal.{Refusal}
 
 -- the first column of document 01's table
 abbrev pub number : Answer → ℕ
@@ -31,3 +33,7 @@ rank NoSuchOrder = 7
 rank NoRoom = 8
 rank NotLoose = 9
 rank ShortBuffer = 10
+
+-- a file refused with this answer at this place
+abbrev pub refused : Answer → ℕ → Result Counts Refusal
+refused a p = Err (record { answer = a; place = p })

@@ -5,8 +5,9 @@ use Rattle.request.specs.declared.Answer.TheVariants.{Unreadable}
 use Rattle.request.specs.declared.Counts.{Counts}
 use Rattle.request.specs.declared.Mark.{Mark}
 use Rattle.request.specs.declared.Mark.TheVariants.{Nd, Ed, Ru, Or}
-use Rattle.request.specs.declared.Reading.{Reading}
-use Rattle.request.specs.declared.Reading.TheVariants.{Whole, Refused}
+use Rattle.request.specs.declared.Refusal.{Refusal}
+use Rattle.std.specs.Prelude.{Result, Ok}
+use Rattle.request.specs.Answers.{refused}
 
 -- ---- the table of marks
 
@@ -100,12 +101,12 @@ abbrev pub counts_in : List ℕ → Counts
 counts_in s = record { nodes = count_in s Nd; edges = count_in s Ed; rules = count_in s Ru; orders = count_in s Or }
 
 -- answer 1, where the records before the end are those counted
-unfoldable pub end_check : List ℕ → Counts → Reading
+unfoldable pub end_check : List ℕ → Counts → Result Counts Refusal
 end_check s cs =
     cond (record_at 69 78 2 s (end_of cs))
-    (cond (eqb (end_of cs + 2) (length s)) (Whole cs) (Refused Unreadable (end_of cs + 2)))
-    (Refused Unreadable (end_of cs))
+    (cond (eqb (end_of cs + 2) (length s)) (Ok cs) (refused Unreadable (end_of cs + 2)))
+    (refused Unreadable (end_of cs))
 
 -- answer 1, of a file
-abbrev pub layout_of : List ℕ → Reading
+abbrev pub layout_of : List ℕ → Result Counts Refusal
 layout_of s = end_check s (counts_in s)

@@ -6,10 +6,13 @@ use Rattle.request.specs.declared.Answer.TheVariants.{BadEdge, BadNode, BadOrder
 use Rattle.request.specs.declared.Check.{Check}
 use Rattle.request.specs.declared.Check.TheVariants.{Many, Wrong, Fenceless}
 use Rattle.request.specs.declared.Counts.{Counts}
+use Rattle.request.specs.declared.kinds.Kind.{Kind}
+use Rattle.request.specs.declared.kinds.Kind.TheVariants.{Any, Fence, Load, Store}
 use Rattle.request.specs.declared.Mark.{Mark}
 use Rattle.request.specs.declared.Mark.TheVariants.{Nd, Ed, Ru, Or}
-use Rattle.request.specs.declared.Reading.{Reading}
-use Rattle.request.specs.declared.Reading.TheVariants.{Whole, Refused}
+use Rattle.request.specs.declared.Refusal.{Refusal}
+use Rattle.std.specs.Prelude.{Result, Ok, Err, Option, None, Some}
+use Rattle.request.specs.Answers.{refused}
 use Rattle.graph.specs.Limits.{most_edges, most_nodes, most_orders, most_rules}
 use Rattle.request.specs.Layout.{counted, earlier, layout_of, start_of, summed}
 use Rattle.request.specs.Earliest.{earliest, any}
@@ -59,6 +62,18 @@ bad_order s n start i =
     leb n (two_at s (start + i * 6 + 2))
     || (leb n (two_at s (start + i * 6 + 4)) || (eqb (two_at s (start + i * 6 + 2)) (two_at s (start + i * 6 + 4)) || repeated s start 6 i))
 
+-- how a file numbers the kinds
+abbrev pub code : Kind → ℕ
+code Store = 0
+code Load = 1
+code Fence = 2
+code Any = 3
+
+-- a byte is that kind's, or no kind's where there is none
+abbrev pub KindOf : ℕ → Option Kind → Type 0
+KindOf byte None = 3 < byte
+KindOf byte (Some k) = byte ≡ code k
+
 -- the rule at an offset leads from the one kind to the other
 unfoldable pub leads : List ℕ → ℕ → ℕ → ℕ → Bool
 leads s left right at = eqb (get_or s (at + 2) 0) left && eqb (get_or s (at + 4) 0) right
@@ -72,8 +87,8 @@ unfoldable pub no_fences : List ℕ → ℕ → ℕ → Bool
 no_fences s start n = not (some_leads s start n 3 2) || not (some_leads s start n 2 3)
 
 -- an answer where one of the n records of a kind, the first of them numbered `start`, is the first bad one; and else what follows
-unfoldable pub listed : Answer → ℕ → ℕ → ℕ → Reading → Reading
-listed answer start i n later = cond (ltb i n) (Refused answer (start + i)) later
+unfoldable pub listed : Answer → ℕ → ℕ → ℕ → Result Counts Refusal → Result Counts Refusal
+listed answer start i n later = cond (ltb i n) (refused answer (start + i)) later
 
 -- ---- the table of marks
 
@@ -132,9 +147,14 @@ fails_at s cs Fenceless i = no_fences s (start_of cs Ru) cs.rules
 abbrev pub SureTo : Counts → Check → ℕ → Type 0
 SureTo cs c r = (r ≤ count_for cs c) × ((s : List ℕ) (k : ℕ) → k < r → fails_at s cs c k ≡ false)
 
+-- the first of them where it fails, or none
+abbrev pub FirstFailing : List ℕ → Counts → Check → Option ℕ → Type 0
+FirstFailing s cs c None = earliest (fails_at s cs c) (count_for cs c) ≡ count_for cs c
+FirstFailing s cs c (Some i) = (earliest (fails_at s cs c) (count_for cs c) ≡ i) × (i < count_for cs c)
+
 -- the first check that fails gives the answer
-unfoldable pub checked : List ℕ → Counts → List Check → Reading
-checked s cs [] = Whole cs
+unfoldable pub checked : List ℕ → Counts → List Check → Result Counts Refusal
+checked s cs [] = Ok cs
 checked s cs (c ∷ l) = listed (answer_to c) (start_for cs c) (earliest (fails_at s cs c) (count_for cs c)) (count_for cs c) (checked s cs l)
 
 -- by rank, and within it by place
@@ -142,10 +162,10 @@ abbrev pub all_checks : List Check
 all_checks = Many Nd ∷ Many Ed ∷ Many Ru ∷ Many Or ∷ Wrong Nd ∷ Wrong Ed ∷ Wrong Ru ∷ Wrong Or ∷ Fenceless ∷ []
 
 -- a refusal stays; else what the counts say
-abbrev pub on_whole : Reading → (Counts → Reading) → Reading
-on_whole (Whole cs) f = f cs
-on_whole (Refused a p) f = Refused a p
+abbrev pub on_whole : Result Counts Refusal → (Counts → Result Counts Refusal) → Result Counts Refusal
+on_whole (Ok cs) f = f cs
+on_whole (Err e) f = Err e
 
 -- the whole reading: the lowest answer, and its earliest place
-unfoldable pub reading_of : List ℕ → Reading
+unfoldable pub reading_of : List ℕ → Result Counts Refusal
 reading_of s = on_whole (layout_of s) (λ cs. checked s cs all_checks)

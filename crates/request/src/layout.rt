@@ -1,84 +1,87 @@
 // Answer 1: how the records lie in the file, and how many there are of each.
-ghost use Rattle.std.specs.Prelude.{◌≡◌, ◌+◌, ◌*◌, ◌<◌, ◌≤◌, length};
-ghost use Rattle.request.specs.Layout.{record_at, in_row, counts_in, start_of, end_of, layout_of};
+ghost use Rattle.std.specs.Prelude.{◌≡◌, ◌+◌, ◌*◌, ◌<◌, ◌≤◌, get_or, length, Ok, Err, MatchResult};
+ghost use Rattle.request.specs.Layout.{count_at, counted, counts_in, end_of, layout_of, record_at, start_of, width};
+ghost use Rattle.request.specs.Tables.{two_at};
 
-use super::{Answer, Counts, Mark, Reading};
+use super::{Answer, Counts, Mark, Refusal};
 
-// Whether a whole record of this mark and size stands at an offset.
-fn has_record(file: &[u8], at: usize, a: u8, b: u8, size: usize) -> bool
-    requires { (2 ≤ size) × (size ≤ 8) }
-    ensures { result ≡ record_at a b size file.now at }
-{
-    if file.len() < size {
-        return false;
-    }
-    if file.len() - size < at {
-        return false;
-    }
-    if file[at] == a {
-        file[at + 1] == b
-    } else {
-        false
-    }
+// A file whose records end where its EN begins, and how many there are of each mark.
+#[derive(Clone, Copy)]
+pub struct Laid<'a> {
+    pub file: &'a [u8],
+    pub counts: Counts,
+    ghost ends: { end_of counts + 2 ≡ length file.now },
 }
 
-// How many such records stand one after the other from an offset on.
-fn in_row(file: &[u8], at: usize, a: u8, b: u8, size: usize) -> usize
-    requires le_size { (2 ≤ size) × (size ≤ 8) }
-    requires at_in_bounds { at ≤ length file.now }
-    ensures count { result ≡ in_row a b size file.now (length file.now) at }
-    ensures fits { at + result * size ≤ length file.now }
+// Whether a whole record with these letters and of this size stands at an offset.
+#[tactic(auto, unfolding(crate::specs::Layout::record_at))]
+fn has_record(file: &[u8], at: usize, letters: [u8; 2], size: usize) -> bool
+    requires { (2 ≤ size) × (size ≤ 8) }
+    ensures { result ≡ record_at (get_or letters 0 0) (get_or letters 1 0) size file.now at }
 {
+    if file.len() < size || file.len() - size < at {
+        return false;
+    }
+    file[at] == letters[0] && file[at + 1] == letters[1]
+}
+
+// How many records of a mark stand one after the other from an offset on, and where they end.
+fn in_row(file: &[u8], at: usize, mark: Mark) -> (usize, usize)
+    requires { at ≤ length file.now }
+    ensures count { result.0 ≡ count_at mark file.now at }
+    ensures end { result.1 ≡ at + result.0 * width mark }
+    ensures within { result.1 ≤ length file.now }
+{
+    let letters = mark.letters();
+    let size = mark.width();
     let mut k = 0;
     let mut p = at;
-    while has_record(file, p, a, b, size) {
+    // by offset: a chain would compute each offset anew, up to a count that is known at the end only
+    while has_record(file, p, letters, size) {
         p += size;
         k += 1;
     }
-    k
+    (k, p)
 }
 
-fn count(file: &[u8]) -> Counts
-    ensures { (result ≡ counts_in file.now) × (end_of result ≤ length file.now) }
+// The counts of the records that a file begins with, and where they end.
+fn count(file: &[u8]) -> (Counts, usize)
+    ensures counts { result.0 ≡ counts_in file.now }
+    ensures end { (result.1 ≡ end_of result.0) × (result.1 ≤ length file.now) }
 {
-    let n = in_row(file, 0, b'N', b'D', 4);
-    let e = in_row(file, n * 4, b'E', b'D', 8);
-    let r = in_row(file, n * 4 + e * 8, b'R', b'U', 6);
-    let o = in_row(file, n * 4 + e * 8 + r * 6, b'O', b'R', 6);
-    Counts {
-        nodes: n,
-        edges: e,
-        rules: r,
-        orders: o,
-    }
+    let (nodes, edges_at) = in_row(file, 0, Mark::Nd);
+    let (edges, rules_at) = in_row(file, edges_at, Mark::Ed);
+    let (rules, orders_at) = in_row(file, rules_at, Mark::Ru);
+    let (orders, end) = in_row(file, orders_at, Mark::Or);
+    let counts = Counts {
+        nodes,
+        edges,
+        rules,
+        orders,
+    };
+    (counts, end)
 }
 
-// Where the records of a mark begin.
-pub fn start_of(counts: Counts, mark: Mark) -> usize
-    requires { end_of counts < 9223372036854775808 }
-    ensures { result ≡ start_of counts mark }
-{
-    match mark {
-        Mark::Nd => 0,
-        Mark::Ed => counts.nodes * 4,
-        Mark::Ru => counts.nodes * 4 + counts.edges * 8,
-        Mark::Or => counts.nodes * 4 + counts.edges * 8 + counts.rules * 6,
-    }
-}
-
-// Answer 1: marks, lengths, the end.
-pub fn marks(file: &[u8]) -> Reading
-    ensures { result ≡ layout_of file.now }
-{
-    let counts = count(file);
-    let end = start_of(counts, Mark::Or) + counts.orders * 6;
-    if has_record(file, end, b'E', b'N', 2) {
-        if end + 2 == file.len() {
-            Reading::Whole(counts)
-        } else {
-            Reading::Refused(Answer::Unreadable, end + 2)
+impl<'a> Laid<'a> {
+    pub fn of(file: &'a [u8]) -> Result<Laid<'a>, Refusal>
+        ensures { MatchResult result (λ l. (l.file.now ≡ file.now) × (layout_of file.now ≡ Ok l.counts)) (λ e. layout_of file.now ≡ Err e) }
+    {
+        let (counts, end) = count(file);
+        if !has_record(file, end, *b"EN", 2) {
+            return Err(Answer::Unreadable.at(end));
         }
-    } else {
-        Reading::Refused(Answer::Unreadable, end)
+        if end + 2 != file.len() {
+            return Err(Answer::Unreadable.at(end + 2));
+        }
+        Ok(Laid { file, counts })
+    }
+
+    // Where record i of a mark stands.
+    pub fn at(&self, mark: Mark, i: usize) -> usize
+        requires { i < counted self.now.counts mark }
+        ensures offset { result ≡ start_of self.now.counts mark + i * width mark }
+        ensures within { result + width mark ≤ length self.now.file.now }
+    {
+        self.counts.start_of(mark) + i * mark.width()
     }
 }

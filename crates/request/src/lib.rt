@@ -3,18 +3,20 @@
 
 mod bad;
 mod checks;
+mod kinds;
 mod layout;
-mod pairs;
+mod table;
 mod values;
 
-ghost use Rattle.std.specs.Prelude.{◌≡◌};
+ghost use Rattle.std.specs.Prelude.{◌≡◌, Ok};
 ghost use Rattle.request.specs.Answers.{number};
-ghost use Rattle.request.specs.declared.Reading.TheVariants.{Whole};
 ghost use Rattle.request.specs.Outcome.{Answered};
 ghost use Rattle.request.specs.Value.{Ready, request_in};
 ghost use Rattle.request.specs.Proper.{Reads};
 
 use graph::Graph;
+pub use kinds::Kind;
+use layout::Laid;
 
 // How many records of each mark a file has.
 #[derive(Clone, Copy)]
@@ -35,6 +37,7 @@ pub enum Mark {
 }
 
 // A check of the records: too many of a mark, a wrong one of it, a fence rule missing.
+// An enum and no closures: all checks stand in one table by rank, and the definitions go through the same table.
 #[derive(Clone, Copy)]
 pub enum Check {
     Many(Mark),
@@ -42,76 +45,67 @@ pub enum Check {
     Fenceless,
 }
 
-// The refusals of document 01's table, in its order.
+// The refusals of document 01's table, by the numbers that it gives them.
 #[derive(Clone, Copy)]
 pub enum Answer {
-    Unreadable,
-    TooMany,
-    BadNode,
-    BadEdge,
-    BadRule,
-    BadOrder,
-    NoFenceRules,
-    NoSuchOrder,
-    NoRoom,
-    NotLoose,
-    ShortBuffer,
+    Unreadable = 1,
+    TooMany = 2,
+    BadNode = 3,
+    BadEdge = 4,
+    BadRule = 5,
+    BadOrder = 6,
+    NoFenceRules = 7,
+    NoSuchOrder = 8,
+    NoRoom = 9,
+    NotLoose = 10,
+    ShortBuffer = 11,
 }
 
-// A file is a whole request, or it is refused with an answer and its place.
+// An answer that refuses a file, and its place.
 #[derive(Clone, Copy)]
-pub enum Reading {
-    Whole(Counts),
-    Refused(Answer, usize),
+pub struct Refusal {
+    pub answer: Answer,
+    pub place: usize,
 }
 
-// The number that document 01 gives an answer.
-pub fn number(a: Answer) -> u64
-    ensures { result ≡ number a }
-{
-    match a {
-        Answer::Unreadable => 1,
-        Answer::TooMany => 2,
-        Answer::BadNode => 3,
-        Answer::BadEdge => 4,
-        Answer::BadRule => 5,
-        Answer::BadOrder => 6,
-        Answer::NoFenceRules => 7,
-        Answer::NoSuchOrder => 8,
-        Answer::NoRoom => 9,
-        Answer::NotLoose => 10,
-        Answer::ShortBuffer => 11,
+impl Answer {
+    // This answer at a place: 0 where an answer has none.
+    pub fn at(self, place: usize) -> Refusal
+        ensures { result ≡ record { answer = self; place = place } }
+    {
+        Refusal {
+            answer: self,
+            place,
+        }
     }
 }
 
-// Reads a file: whole, or refused as document 01's table has it.
-pub fn read(file: &[u8]) -> Reading
+impl From<Answer> for u64 {
+    ghost from_gives = { λ a n. n ≡ number a };
+
+    fn from(a: Answer) -> u64 {
+        a as u64
+    }
+}
+
+// Reads a file: the counts of a whole one, or the refusal that document 01's table has for it.
+pub fn read(file: &[u8]) -> Result<Counts, Refusal>
     ensures { Answered file.now result }
 {
-    let marked = layout::marks(file);
-    let Reading::Whole(counts) = marked else {
-        return marked;
-    };
-    checks::run_checks(file, counts)
+    let laid = Laid::of(file)?;
+    laid.check()
 }
 
 // The graph of an accepted file, by value.
 pub fn decode(file: &[u8], counts: Counts) -> Graph
-    requires { Answered file.now (Whole counts) }
+    requires { Answered file.now (Ok counts) }
     ensures { Reads file.now (request_in result) × Ready result }
 {
-    let nodes = values::nodes(file, layout::start_of(counts, Mark::Nd), counts.nodes);
-    let edges = values::edges(file, layout::start_of(counts, Mark::Ed), counts.edges);
-    let rules = values::rules(file, layout::start_of(counts, Mark::Ru), counts.rules);
-    let orders = values::orders(file, layout::start_of(counts, Mark::Or), counts.orders);
+    let laid = Laid { file, counts };
     let mut g = Graph::empty();
-    g.nodes = nodes;
-    g.node_count = counts.nodes;
-    g.edges = edges;
-    g.edge_count = counts.edges;
-    g.rules = rules;
-    g.rule_count = counts.rules;
-    g.orders = orders;
-    g.order_count = counts.orders;
+    laid.fill(&mut g.nodes);
+    laid.fill(&mut g.edges);
+    laid.fill(&mut g.rules);
+    laid.fill(&mut g.orders);
     g
 }

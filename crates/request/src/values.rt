@@ -1,112 +1,122 @@
-// The records of an accepted file as values: an array for each mark.
-ghost use Rattle.std.specs.Prelude.{◌≡◌, ◌+◌, ◌*◌, ◌≤◌, length, take};
-ghost use Rattle.graph.specs.Limits.{most_nodes, most_edges, most_rules, most_orders};
-ghost use Rattle.request.specs.declared.Mark.TheVariants.{Ed, Or};
-ghost use Rattle.request.specs.Decode.{label_of, side_of, node_in, rule_in, read_at, table};
-ghost use Rattle.request.specs.Tables.{two_at};
+// The records of an accepted file as values.
+ghost use Rattle.std.specs.Prelude.{◌≡◌, ℕ, ◌+◌, ◌*◌, ◌≤◌, List, [], length};
+ghost use Rattle.request.specs.declared.Mark.{Mark};
+ghost use Rattle.request.specs.declared.Mark.TheVariants.{Ed, Nd, Or, Ru};
+ghost use Rattle.request.specs.Decode.{label_of, node_in, read_at, rule_in, side_of, table};
+ghost use Rattle.request.specs.Layout.{counted, start_of, width};
+ghost use Rattle.request.specs.Tables.{KindOf};
 
-use super::pairs;
-use graph::{Edge, Graph, Label, Node, Order, Rule, Side};
+use super::Mark;
+use super::bad::two_at;
+use super::kinds::Kind;
+use super::layout::Laid;
+use arrayvec::ArrayVec;
+use graph::{Edge, Label, Node, Order, Rule, Side};
 
-fn short_at(file: &[u8], at: usize) -> u16
-    requires { at + 2 ≤ length file.now }
-    ensures { result ≡ two_at file.now at }
+// Any other kind is a fence's: the file is an accepted one.
+fn label(kind: Option<Kind>, address: u8) -> Label
+    ensures { (byte : ℕ) → KindOf byte kind → result ≡ label_of byte address }
 {
-    pairs::two_at(file, at) as u16
+    match kind {
+        Some(Kind::Store) => Label::Store(address),
+        Some(Kind::Load) => Label::Load(address),
+        _ => Label::Fence,
+    }
 }
 
-fn label(kind: u8, address: u8) -> Label
-    ensures { result ≡ label_of kind address }
+// Any kind but the wildcard is a label's, likewise.
+fn side(kind: Option<Kind>, variable: u8) -> Side
+    ensures { (byte : ℕ) → KindOf byte kind → result ≡ side_of byte variable }
 {
-    if kind == 0 {
-        return Label::Store(address);
+    match kind {
+        Some(Kind::Any) => Side::Any,
+        _ => Side::Is(label(kind, variable)),
     }
-    if kind == 1 {
-        return Label::Load(address);
-    }
-    Label::Fence
 }
 
-fn side(kind: u8, variable: u8) -> Side
-    ensures { result ≡ side_of kind variable }
-{
-    if kind == 3 {
-        return Side::Any;
-    }
-    let l = label(kind, variable);
-    Side::Is(l)
+// What a record of a mark is as a value.
+pub trait Record: Drop {
+    ghost MARK: { Mark };
+
+    const MARK: Mark;
+
+    ghost in_file: { List ℕ → ℕ → Self };
+
+    // The record at an offset.
+    fn at(file: &[u8], at: usize) -> Self
+        requires { at + width MARK ≤ length file.now }
+        ensures { result ≡ in_file file.now at };
 }
 
-// The first n nodes from an offset on.
-pub fn nodes(file: &[u8], start: usize, n: usize) -> [Node; Graph::NODES]
-    requires { (n ≤ most_nodes) × (start + n * 4 ≤ length file.now) }
-    ensures { (take n result ≡ table node_in 4 file.now start n) × (length result ≡ most_nodes) }
-{
-    let mut found = [Node {
-        label: Label::Fence,
-    }; Graph::NODES];
-    for i in 0..n {
-        let at = start + i * 4;
-        let l = label(file[at + 2], file[at + 3]);
-        found[i] = Node { label: l };
+impl Record for Node {
+    ghost MARK = { Nd };
+
+    const MARK: Mark = Mark::Nd;
+
+    ghost in_file = { node_in };
+
+    fn at(file: &[u8], at: usize) -> Node {
+        Node {
+            label: label(Kind::of(file[at + 2]), file[at + 3]),
+        }
     }
-    found
 }
 
-// The first n edges from an offset on.
-pub fn edges(file: &[u8], start: usize, n: usize) -> [Edge; Graph::EDGES]
-    requires { (n ≤ most_edges) × (start + n * 8 ≤ length file.now) }
-    ensures { (take n result ≡ table (read_at Ed) 8 file.now start n) × (length result ≡ most_edges) }
-{
-    let mut found = [Edge {
-        from: 0,
-        to: 0,
-        weight: 0,
-    }; Graph::EDGES];
-    for i in 0..n {
-        let at = start + i * 8;
-        found[i] = Edge {
-            from: short_at(file, at + 2),
-            to: short_at(file, at + 4),
-            weight: short_at(file, at + 6),
-        };
+impl Record for Edge {
+    ghost MARK = { Ed };
+
+    const MARK: Mark = Mark::Ed;
+
+    ghost in_file = { read_at Ed };
+
+    fn at(file: &[u8], at: usize) -> Edge {
+        Edge {
+            from: two_at(file, at + 2),
+            to: two_at(file, at + 4),
+            weight: two_at(file, at + 6),
+        }
     }
-    found
 }
 
-// The first n rules from an offset on.
-pub fn rules(file: &[u8], start: usize, n: usize) -> [Rule; Graph::RULES]
-    requires { (n ≤ most_rules) × (start + n * 6 ≤ length file.now) }
-    ensures { (take n result ≡ table rule_in 6 file.now start n) × (length result ≡ most_rules) }
-{
-    let mut found = [Rule {
-        left: Side::Any,
-        right: Side::Any,
-    }; Graph::RULES];
-    for i in 0..n {
-        let at = start + i * 6;
-        let l = side(file[at + 2], file[at + 3]);
-        let r = side(file[at + 4], file[at + 5]);
-        found[i] = Rule { left: l, right: r };
+impl Record for Rule {
+    ghost MARK = { Ru };
+
+    const MARK: Mark = Mark::Ru;
+
+    ghost in_file = { rule_in };
+
+    fn at(file: &[u8], at: usize) -> Rule {
+        Rule {
+            left: side(Kind::of(file[at + 2]), file[at + 3]),
+            right: side(Kind::of(file[at + 4]), file[at + 5]),
+        }
     }
-    found
 }
 
-// The first n orders from an offset on.
-pub fn orders(file: &[u8], start: usize, n: usize) -> [Order; Graph::ORDERS]
-    requires { (n ≤ most_orders) × (start + n * 6 ≤ length file.now) }
-    ensures { (take n result ≡ table (read_at Or) 6 file.now start n) × (length result ≡ most_orders) }
-{
-    let mut found = [Order {
-        first: 0,
-        second: 0,
-    }; Graph::ORDERS];
-    for i in 0..n {
-        let at = start + i * 6;
-        found[i] = Order {
-            first: short_at(file, at + 2),
-            second: short_at(file, at + 4),
-        };
+impl Record for Order {
+    ghost MARK = { Or };
+
+    const MARK: Mark = Mark::Or;
+
+    ghost in_file = { read_at Or };
+
+    fn at(file: &[u8], at: usize) -> Order {
+        Order {
+            first: two_at(file, at + 2),
+            second: two_at(file, at + 4),
+        }
     }
-    found
+}
+
+impl Laid<'_> {
+    // Fills a list with the records of a mark.
+    pub fn fill<R: Record, const N: usize>(&self, list: &mut ArrayVec<R, N>)
+        requires { (list.old.items ≡ []) × (counted self.now.counts R.MARK ≤ N) }
+        ensures { list.new.items ≡ table R.in_file (width R.MARK) self.now.file.now (start_of self.now.counts R.MARK) (counted self.now.counts R.MARK) }
+    {
+        // by number: the bytes of record i stand at a computed offset
+        for i in 0..self.counts.of(R::MARK) {
+            list.push(R::at(self.file, self.at(R::MARK, i)));
+        }
+    }
 }

@@ -1,7 +1,6 @@
--- The lists of edges that end at the same node: made one edge more at a time, from the last down; gone through; those with nothing left.
+-- The lists of edges that end at the same node: made one edge more at a time, from the last down; the next edge of a list.
 -- Assumes nothing.
 use mathlib.Core.List.{List}
-use mathlib.Core.Logic.{⊎_elim}
 use mathlib.Core.Path.{◌≡◌, sym, ◌∙◌}
 use Prim.Native.Nat.{ℕ, ◌+◌, ◌<◌, ◌≤◌}
 use native.Mathlib.Decide.{ℕ_discrete}
@@ -10,9 +9,8 @@ use lib.ListN.{length, get_or, set, length-set}
 use lib.Seq.{get_or-set_same, get_or-set_other}
 use Rattle.graph.specs.Limits.{most_nodes, most_edges}
 use Rattle.graph.specs.Scan.{FirstFrom}
-use Rattle.graph.proofs.Scan.{Passed, passed_none, passed_more, first_here, first_none, first_lower}
-use Rattle.graph.proofs.Splits.{lt_or_ge}
-use Rattle.route.specs.Way.{EdgeLists, Remains, Sealed}
+use Rattle.graph.proofs.Scan.{passed_none, first_here, first_none, first_lower}
+use Rattle.route.specs.Way.{EdgeLists}
 
 module _ (to : List ℕ) where
   -- edge e ends at v
@@ -64,26 +62,3 @@ module _ (to : List ℕ) where
 
     pub next_into : e < length to → get_or to e 0 ≡ u → e' ≡ get_or links (most_nodes + e) 0 → FirstFrom (Into u) (e + 1) (length to) e'
     next_into h p q = rw (q, ← p) (linked.next e (omega arith) h)
-
--- e is the next edge that ends at u, and nothing is left of those before
-pub record Sealing (to left : List ℕ) (u e : ℕ) : Type 0 where
-  pub upto : e ≤ length to
-  pub ends : e < length to → get_or to e 0 ≡ u
-  pub gone : Passed (λ x. Into to u x × Remains left x) 0 e
-
-module _ (to left : List ℕ) (u : ℕ) where
-  sealing_on : (lo e : ℕ) → FirstFrom (Into to u) lo (length to) e → Passed (λ x. Into to u x × Remains left x) 0 lo → Sealing to left u e
-  sealing_on lo e f g = record {
-    upto = f.high;
-    ends = f.here;
-    gone = λ x a b p. ⊎_elim (λ l. g x a l p) (λ l. f.none x l b p.0) (lt_or_ge x lo);
-  }
-
-  pub sealing_start : (e : ℕ) → FirstFrom (Into to u) 0 (length to) e → Sealing to left u e
-  sealing_start e f = sealing_on 0 e f (passed_none (λ x. Into to u x × Remains left x) 0)
-
-  pub sealing_next : (e e' : ℕ) → Sealing to left u e → get_or left e 0 ≡ 0 → FirstFrom (Into to u) (e + 1) (length to) e' → Sealing to left u e'
-  sealing_next e e' y z f = sealing_on (e + 1) e' f (passed_more (λ x. Into to u x × Remains left x) 0 e y.gone (λ p. omega (arith, p.1, z)))
-
-  pub sealing_end : (e : ℕ) → Sealing to left u e → length to ≤ e → Sealed to left u
-  sealing_end e y l x h p o = y.gone x (omega arith) (omega (arith, h, l)) (p, o)

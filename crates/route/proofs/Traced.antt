@@ -1,54 +1,100 @@
 -- The route that is found, edge by edge from its first node; or none.
 -- Assumes nothing.
-use mathlib.Core.List.{List}
-use mathlib.Core.Logic.{◌≢◌}
-use mathlib.Core.Path.{◌≡◌, sym, ap, ◌∙◌, subst⁻¹}
-use Prim.Native.Nat.{ℕ, ◌+◌, ◌-◌, ◌<◌, ◌≤◌}
+use mathlib.Core.List.{List, [], ◌∷◌, ◌++◌}
+use mathlib.Core.Logic.{◌⊎◌, inl, inr, ⊎_elim, ◌≢◌}
+use mathlib.Core.Path.{◌≡◌, refl, sym, ◌∙◌, subst⁻¹}
+use Prim.Native.Nat.{ℕ, ◌+◌, ◌<◌, ◌≤◌}
 use native.Mathlib.Omega.{arith}
-use lib.ListN.{length, get_or, set, length-set}
-use lib.Seq.{get_or-set_same, get_or-set_other}
-use borrow.Author.Count.{below_more}
+use lib.ListN.{length, get_or, length-append, get_or-append}
+use lib.Seq.{get_or_at}
+use Rattle.graph.proofs.Splits.{lt_or_ge}
 use Rattle.graph.specs.Limits.{most_nodes}
-use Rattle.route.specs.Spread.{Nearer, Homeward}
-use Rattle.route.specs.Way.{Net, Way, Remains, Found}
+use Rattle.route.specs.declared.Onward.{Onward}
+use Rattle.route.specs.declared.Onward.TheVariants.{Unreached, Here, By}
+use Rattle.route.specs.Spread.{miss, onward, Reached, Homeward}
+use Rattle.route.specs.Way.{Way, Remains, Found}
+use Rattle.route.proofs.Spreads.{on_same, missed}
 
-module _ (from left : List ℕ) where
-  abbrev Open : ℕ → Type 0
-  Open e = (e < length from) × Remains left e
+-- the edges of `out` lead from a to `at`: if a is reached, `at` stands in the queue, ahead of as many nodes as there are edges
+pub record Tracing (from to left : List ℕ) (goal a : ℕ) (on : List Onward) (at : ℕ) (out : List ℕ) : Type 0 where
+  pub queue : List ℕ
+  pub few : length queue ≤ most_nodes
+  pub led : Homeward from to left goal on queue
+  pub far : miss (onward on a) ≡ 1 → (es : List ℕ) → Way from to (Remains left) a es goal → ⊥
+  pub start : length out ≡ 0 → at ≡ a
+  pub some : 0 < length out → Reached on a
+  pub place : Reached on a → (k : ℕ) × (k + length out < length queue) × (get_or queue k 0 ≡ at)
+  pub edge : (k : ℕ) → k < length out → (get_or out k 0 < length from) × Remains left (get_or out k 0)
 
-  -- something is left of the first i edges
-  abbrev pub Traced : List ℕ → ℕ → Type 0
-  Traced edges i = (k : ℕ) → k < i → Open (get_or edges k 0)
+-- whether a node is reached
+miss_cases : (x : Onward) → (miss x ≡ 0) ⊎ (miss x ≡ 1)
+miss_cases Unreached = inr refl
+miss_cases Here = inl refl
+miss_cases (By _) = inl refl
 
-  traced_more : (edges : List ℕ) (i e : ℕ) → i < length edges → Open e → Traced edges i → Traced (set edges i e) (i + 1)
-  traced_more edges i e l o r =
-      below_more (λ k. Open (get_or (set edges i e) k 0)) i (λ k h. subst⁻¹ Open (get_or-set_other edges i k e 0 (λ z. omega (arith, z))) (r k h))
-      (subst⁻¹ Open (get_or-set_same edges i e 0 l) o)
+some_or_none : (n : ℕ) → (0 < n) ⊎ (n ≡ 0)
+some_or_none n = ⊎_elim (λ h. inl h) (λ h. inr (omega (arith, h))) (lt_or_ge 0 n)
 
-module _ {from to left : List ℕ} {goal : ℕ} {dist via : List ℕ} (y : Homeward from to left goal dist via) where
-  -- i edges are traced, up to `at`
-  module _ {n at i : ℕ} (l : i < n) (n64 : n < most_nodes) (at64 : at < most_nodes) (sum : get_or dist at 0 + i ≡ n) where
-    pub trace_edge : {e : ℕ} → e ≡ get_or via at 0 → Nearer from to left dist (n - (i + 1)) e
-    trace_edge p = subst⁻¹ (Nearer from to left dist (n - (i + 1))) p (y.back at (n - (i + 1)) at64 (omega arith) (omega arith))
-
-    pub trace_more : (edges : List ℕ) {to' e : ℕ} → e ≡ get_or via at 0 → Net from to → to' ≡ get_or to e 0 → length edges ≡ most_nodes → Traced from left edges i
-        → (to' < most_nodes) × (get_or dist to' 0 + (i + 1) ≡ n) × (n < most_nodes) × (length (set edges i e) ≡ most_nodes)
-        × Traced from left (set edges i e) (i + 1)
-    trace_more edges {to'} {e} p net q long r =
-        let b = trace_edge p in
-        let at' = ap (λ (j : ℕ). get_or dist j 0) q in
-        let more = traced_more from left edges i e (omega (arith, long)) (b.0, b.1) r in
-        (omega (arith, q, net.head e b.0), omega (arith, at', b.2), n64, length-set edges i e ∙ long, more)
-
-  pub trace_end : {a n i : ℕ} {edges : List ℕ} → a < most_nodes → a ≢ goal → n ≡ get_or dist a 0 → n < most_nodes → n ≤ i → Traced from left edges i
-      → Found from to left a goal (record { edges = edges; len = n })
-  trace_end {a} a64 apart na n64 e r = record {
-    short = omega arith;
-    none = λ z. absurd (apart (y.home a a64 (sym na ∙ z)));
-    edge = λ k l. r k (omega arith);
+module _ {from to left : List ℕ} {goal a : ℕ} {on : List Onward} where
+  pub trace_start : (queue : List ℕ) → length queue ≤ most_nodes → Homeward from to left goal on queue
+      → (miss (onward on a) ≡ 1 → (es : List ℕ) → Way from to (Remains left) a es goal → ⊥) → Tracing from to left goal a on a []
+  trace_start queue few led far = record {
+    queue = queue;
+    few = few;
+    led = led;
+    far = far;
+    start = λ z. refl;
+    some = λ h. absurd (omega (arith, h));
+    place = λ r. let q = led.queued a r in (q.0, omega (arith, q.1), q.2);
+    edge = λ k h. absurd (omega (arith, h));
   }
 
+  module _ {at : ℕ} {out : List ℕ} (y : Tracing from to left goal a on at out) where
+    module _ {e : ℕ} (by : onward on at ≡ By e) where
+      from_reached : Reached on a
+      from_reached = ⊎_elim (λ h. y.some h) (λ z. missed (on_same on (sym (y.start z))) ∙ missed by) (some_or_none (length out))
+
+      step : (e < length from) × Remains left e × ((j : ℕ) × (j + (length out + 1) < length y.queue) × (get_or y.queue j 0 ≡ get_or to e 0))
+      step =
+          let p = y.place from_reached in
+          let b = y.led.back p.0 e (omega (arith, p.1)) (on_same on p.2 ∙ by) in
+          (b.0, b.1, (b.2.0, omega (arith, b.2.1, p.1), b.2.2))
+
+      pub trace_edge : (e < length from) × (length out < most_nodes)
+      trace_edge = (step.0, omega (arith, (y.place from_reached).1, y.few))
+
+      pub trace_more : {at' : ℕ} → at' ≡ get_or to e 0 → Tracing from to left goal a on at' (out ++ e ∷ [])
+      trace_more {at'} q = record {
+        queue = y.queue;
+        few = y.few;
+        led = y.led;
+        far = y.far;
+        start = λ z. absurd (omega (arith, z, more));
+        some = λ h. from_reached;
+        place = λ r. let s = step.2 in (s.0, omega (arith, s.1, more), s.2 ∙ sym q);
+        edge = λ k h. ⊎_elim (λ l. subst⁻¹ Open (get_or-append out (e ∷ []) 0 k l) (y.edge k l))
+            (λ l. subst⁻¹ Open (get_or_at out e [] 0 k (omega (arith, l, h, more))) (step.0, step.1)) (lt_or_ge k (length out));
+      }
+        where
+          Open : ℕ → Type 0
+          Open x = (x < length from) × Remains left x
+
+          more : length (out ++ e ∷ []) ≡ length out + 1
+          more = length-append out (e ∷ [])
+
+    pub trace_end : a ≢ goal → ((e : ℕ) → onward on at ≡ By e → ⊥) → Found from to left a goal out
+    trace_end apart last = record {
+      short = ⊎_elim (λ r. omega (arith, (y.place r).1, y.few)) (λ m. ⊎_elim (λ h. omega (arith, y.some h, m)) (λ z. omega (arith, z)) (some_or_none (length out)))
+          (miss_cases (onward on a));
+      none = λ z. none z (onward on a) refl;
+      edge = y.edge;
+    }
+      where
+        none : length out ≡ 0 → (x : Onward) → onward on a ≡ x → (es : List ℕ) → Way from to (Remains left) a es goal → ⊥
+        none z Unreached q = y.far (missed q)
+        none z Here q = absurd (apart (y.led.home a q))
+        none z (By e) q = absurd (last e (on_same on (y.start z) ∙ q))
+
 -- no edge: there is no way
-pub none_found : {from to left : List ℕ} {a goal : ℕ} {edges : List ℕ} → ((es : List ℕ) → Way from to (Remains left) a es goal → ⊥)
-    → Found from to left a goal (record { edges = edges; len = 0 })
-none_found f = record { short = omega arith; none = λ z. f; edge = λ k l. absurd (omega arith) }
+pub none_found : {from to left : List ℕ} {a goal : ℕ} → ((es : List ℕ) → Way from to (Remains left) a es goal → ⊥) → Found from to left a goal []
+none_found f = record { short = omega arith; none = λ z. f; edge = λ k l. absurd (omega (arith, l)) }

@@ -1,9 +1,19 @@
 -- Ways through a graph by the numbers of their edges. Edge e goes from node `get_or from e 0` to node `get_or to e 0`.
 -- Assumes nothing.
-use Rattle.std.specs.Prelude.{List, [], ◌∷◌, ◌≡◌, ℕ, ◌+◌, ◌<◌, ◌≤◌, length, get_or}
-use Rattle.route.specs.declared.EdgeRoute.{EdgeRoute}
+use Rattle.std.specs.Prelude.{List, [], ◌∷◌, map, ◌≡◌, ℕ, ◌+◌, ◌<◌, ◌≤◌, length, get_or}
+use Rattle.graph.specs.declared.Edge.{Edge}
 use Rattle.graph.specs.Limits.{most_nodes, most_edges}
 use Rattle.graph.specs.Scan.{FirstFrom}
+
+-- where edges start, where they end, and what they weigh
+abbrev pub starts : List Edge → List ℕ
+starts edges = map (λ (e : Edge). e.from) edges
+
+abbrev pub ends : List Edge → List ℕ
+ends edges = map (λ (e : Edge). e.to) edges
+
+abbrev pub weights : List Edge → List ℕ
+weights edges = map (λ (e : Edge). e.weight) edges
 
 -- edges within the limits
 pub record Net (from to : List ℕ) : Type 0 where
@@ -31,7 +41,7 @@ abbrev pub Sealed : List ℕ → List ℕ → ℕ → Type 0
 Sealed to left b = (e : ℕ) → e < length to → get_or to e 0 ≡ b → Remains left e → ⊥
 
 -- no edge, and there is no way; or edges of which something is left
-pub record Found (from to left : List ℕ) (a b : ℕ) (r : EdgeRoute) : Type 0 where
-  pub short : r.len ≤ most_nodes
-  pub none : r.len ≡ 0 → (es : List ℕ) → Way from to (Remains left) a es b → ⊥
-  pub edge : (k : ℕ) → k < r.len → (get_or r.edges k 0 < length from) × Remains left (get_or r.edges k 0)
+pub record Found (from to left : List ℕ) (a b : ℕ) (r : List ℕ) : Type 0 where
+  pub short : length r ≤ most_nodes
+  pub none : length r ≡ 0 → (es : List ℕ) → Way from to (Remains left) a es b → ⊥
+  pub edge : (k : ℕ) → k < length r → (get_or r k 0 < length from) × Remains left (get_or r k 0)

@@ -2,39 +2,34 @@
 #![tactic(auto)]
 
 ghost use Rattle.std.specs.Prelude.{List, ℕ};
-ghost use Rattle.outcome.specs.Outcome.{RunOutcome};
+ghost use Rattle.outcome.specs.Outcome.{RunOutcome, reported};
 ghost use Rattle.request.specs.Value.{Ready, request_in};
 ghost use Rattle.request.specs.Proper.{Reads};
 
 use fencing::on::{count, put_on};
 use graph::Graph;
-use outcome::{Report, refused};
-use request::Answer;
+use outcome::Report;
+use request::{Answer, Refusal};
 use writing::{size_of, write_request};
 
-pub fn run(g: Graph, out: &mut [u8]) -> Report
+// Writes the graph with a fence on each edge of its chosen cut.
+pub fn run(g: Graph, out: &mut [u8]) -> Result<Report, Refusal>
     requires { Ready g }
-    ensures { (s : List ℕ) → Reads s (request_in g) → RunOutcome s out.old result out.new }
+    ensures { (s : List ℕ) → Reads s (request_in g) → RunOutcome s out.old (reported result) out.new }
 {
-    let cut = cut::chosen_cut(g);
+    let cut = cut::chosen_cut(&g);
     let chosen = cut.flags();
-    let k = count(chosen);
-    if Graph::NODES < g.node_count + k {
-        return refused(Answer::NoRoom, 0);
+    let fences = count(&chosen);
+    if Graph::NODES < g.nodes.len() + fences {
+        return Err(Answer::NoRoom.at(0));
     }
-    if Graph::EDGES < g.edge_count + k {
-        return refused(Answer::NoRoom, 0);
+    if Graph::EDGES < g.edges.len() + fences {
+        return Err(Answer::NoRoom.at(0));
     }
-    let fenced = put_on(g, chosen);
-    if out.len() < size_of(fenced) {
-        return refused(Answer::ShortBuffer, 0);
+    let fenced = put_on(g, &chosen);
+    if out.len() < size_of(&fenced) {
+        return Err(Answer::ShortBuffer.at(0));
     }
-    let length = write_request(out, fenced);
-    Report {
-        answer: 0,
-        place: 0,
-        fences: k as u64,
-        weight: cut.weight as u64,
-        length: length as u64,
-    }
+    let length = write_request(out, &fenced);
+    Ok(Report::done(fences as u64, u64::from(cut.weight), length as u64))
 }

@@ -2,43 +2,37 @@
 -- Assumes nothing.
 use mathlib.Core.Bool.{true, false, true≢false}
 use mathlib.Core.List.{List}
-use mathlib.Core.Path.{◌≡◌, refl, sym, ap, ◌∙◌}
+use Rattle.std.specs.Prelude.{Some, None}
+use mathlib.Core.Path.{◌≡◌, sym, ap, subst, ◌∙◌}
 use Prim.Native.Nat.{ℕ, ◌+◌, ◌-◌, ◌*◌, ◌/◌, ◌%◌, ◌^◌, ◌<◌, ◌≤◌}
 use native.Mathlib.Decide.{dec_lt}
 use native.Mathlib.Omega.{arith}
 use lib.ListN.{length, get_or, get_or-eq_default}
 use Rattle.flags.specs.Flag.{flag, less, lowest, above}
 use Rattle.flags.proofs.Digit.{flag-above, flag_lt, flag_zero}
-use Rattle.flags.proofs.Least.{lowest_set, lowest_first}
+use Rattle.flags.proofs.Least.{Least, lowest_some, lowest_none}
 use Rattle.flags.proofs.Pair.{less_l, less_new, less_gone}
-use Rattle.sets.specs.Whole.{words, Small, whole, most, Ahead, LowestOf}
-use Rattle.sets.proofs.Words.{whole-at, whole-flag}
+use Rattle.sets.specs.Whole.{words, Small, whole, most, Ahead}
+use Rattle.sets.proofs.Words.{whole_at, whole-flag}
 
 -- a set has no number from 512 on
 pub beyond : (a : List ℕ) (k : ℕ) → Small a → length a ≡ words → most ≤ k → flag (whole a) k ≡ false
-beyond a k sa len h = whole-at a k sa ∙ ap (λ (w : ℕ). flag w (k % 64)) (get_or-eq_default a 0 {n = k / 64} (omega (arith, h, len))) ∙ flag_zero (k % 64)
+beyond a k sa len h = whole_at a k sa ∙ ap (λ (w : ℕ). flag w (k % 64)) (get_or-eq_default a 0 {n = k / 64} (omega (arith, h, len))) ∙ flag_zero (k % 64)
 
 -- what of a stands between two numbers is in b
 abbrev pub Passed : ℕ → ℕ → ℕ → ℕ → Type 0
 Passed a b from k = (j : ℕ) → from ≤ j → j < k → flag a j ≡ true → flag b j ≡ true
 
-pub passed_none : (a b from : ℕ) → Passed a b from from
-passed_none a b from j h l = absurd (omega (arith, h, l))
-
 module _ (a b : List ℕ) (sa : Small a) (sb : Small b) where
-  pub ahead_all : (from k : ℕ) → length a ≡ words → most ≤ k → Passed (whole a) (whole b) from k → Ahead (whole a) (whole b) from most
-  ahead_all from k len h p = record {
-    passed = λ j f l. p j f (omega (arith, h, l));
-    one = λ n. absurd (n refl);
-    none = λ e j f g. by j f g (dec_lt j most);
-  }
+  pub ahead_all : (from k : ℕ) → length a ≡ words → most ≤ k → Passed (whole a) (whole b) from k → Ahead (whole a) (whole b) from None
+  ahead_all from k len h p j f g = by j f g (dec_lt j most)
     where
       by : (j : ℕ) → from ≤ j → flag (whole a) j ≡ true → Dec (j < most) → flag (whole b) j ≡ true
       by j f g (yes l) = p j f (omega (arith, h, l)) g
       by j f g (no l) = absurd (true≢false (sym g ∙ beyond a j sa len (omega (arith, l))))
 
   -- the word of k, and what it has from there on
-  module _ (from k : ℕ) (low : from ≤ k) (passed : Passed (whole a) (whole b) from k) where
+  module _ (from k : ℕ) (begun : from ≤ k) (passed : Passed (whole a) (whole b) from k) where
     abbrev x : ℕ
     x = get_or a (k / 64) 0
 
@@ -66,63 +60,24 @@ module _ (a b : List ℕ) (sa : Small a) (sb : Small b) where
             let t : j - k < n = omega (arith, h, l) in
             ap (flag (whole b)) (sym e) ∙ gone (j - k) (within (j - k) t) (z (j - k) t) (ap (flag (whole a)) e ∙ g)
 
-    pub passed_word : left ≡ 0 → Passed (whole a) (whole b) from (k + (64 - k % 64))
-    passed_word z = farther (64 - k % 64) (λ t h. omega (arith, h)) (λ t h. ap (λ (w : ℕ). flag w t) z ∙ flag_zero t)
+    pub passed_word : (w : ℕ) → w ≡ left → lowest w ≡ None → Passed (whole a) (whole b) from (k + (64 - k % 64))
+    passed_word w e n = farther (64 - k % 64) (λ t h. omega (arith, h)) (λ t h. ap (λ (v : ℕ). flag v t) (sym e ∙ lowest_none w n) ∙ flag_zero t)
 
-    module _ (fit : less x y < 2 ^ 64) (fits : left < 2 ^ 64) (some : left ≡ 0 → ⊥) where
-      abbrev t : ℕ
-      t = lowest left
+    module _ (w t : ℕ) (fit : less x y < 2 ^ 64) (fits : w < 2 ^ 64) (e : w ≡ left) (low : lowest w ≡ Some t) where
+      least : Least left t
+      least = subst (λ (v : ℕ). Least v t) e (lowest_some w t fits low)
 
       is : flag (less x y) (k % 64 + t) ≡ true
-      is = sym (flag-above (less x y) (k % 64) t) ∙ lowest_set left fits some
+      is = sym (flag-above (less x y) (k % 64) t) ∙ least.set
 
       pub in_word : k % 64 + t < 64
       in_word = flag_lt (less x y) (k % 64 + t) fit is
 
-      pub ahead_at : k < most → Ahead (whole a) (whole b) from (k + t)
-      ahead_at h = record {
-        passed = farther t (λ u l. omega (arith, l, in_word)) (λ u l. lowest_first left u fits some l);
-        one = λ n. (
-          omega (arith, low),
-          omega (arith, h, in_word),
-          there t in_word a sa ∙ less_l x y (k % 64 + t) is,
-          there t in_word b sb ∙ less_new x y (k % 64 + t) is,
-        );
-        none = λ e. absurd (omega (arith, e, h, in_word));
-      }
-
--- ---- the lowest of all: from 0 on, a word at a time
-
-above_none : (w : ℕ) → above w 0 ≡ w
-unfolding above
-above_none w = omega arith
-
-lowest_of : {a b k : ℕ} → Ahead a b 0 k → LowestOf a b k
-lowest_of ahead = record {
-  one = λ n. let o = ahead.one n in record { node = o.1; among = o.2; new = o.3; first = λ j h. ahead.passed j (omega arith) h };
-  none = λ e j. ahead.none e j (omega arith);
-}
-
-module _ (a b : List ℕ) (sa : Small a) (sb : Small b) where
-  pub lowest_all : {i : ℕ} → length a ≡ words → words ≤ i → Passed (whole a) (whole b) 0 (i * 64) → LowestOf (whole a) (whole b) most
-  lowest_all {i} len end p = lowest_of (ahead_all a b sa sb 0 (i * 64) len (omega (arith, end)) p)
-
-  module _ (i : ℕ) (passed : Passed (whole a) (whole b) 0 (i * 64)) where
-    -- what is left of word i
-    here : above (less (get_or a (i * 64 / 64) 0) (get_or b (i * 64 / 64) 0)) (i * 64 % 64) ≡ less (get_or a i 0) (get_or b i 0)
-    here =
-        let at : i * 64 / 64 ≡ i = omega arith in
-        let off : i * 64 % 64 ≡ 0 = omega arith in
-        rw (at, off) (above_none (less (get_or a i 0) (get_or b i 0)))
-
-    pub word_passed : less (get_or a i 0) (get_or b i 0) ≡ 0 → Passed (whole a) (whole b) 0 ((i + 1) * 64)
-    word_passed z =
-        let e : i * 64 + (64 - i * 64 % 64) ≡ (i + 1) * 64 = omega arith in
-        rw e at (passed_word a b sa sb 0 (i * 64) (omega arith) passed (here ∙ z))
-
-    pub lowest-at : (w : ℕ) → w ≡ less (get_or a i 0) (get_or b i 0) → w < 2 ^ 64 → (w ≡ 0 → ⊥) → i < words → LowestOf (whole a) (whole b) (i * 64 + lowest w)
-    lowest-at w e fit some h =
-        let at : i * 64 / 64 ≡ i = omega arith in
-        let same = here ∙ sym e in
-        let ahead = ahead_at a b sa sb 0 (i * 64) (omega arith) passed (rw (at, ← e) fit) (rw same fit) (λ z. some (sym same ∙ z)) (omega (arith, h)) in
-        rw same at (lowest_of ahead)
+      pub ahead_at : k < most → Ahead (whole a) (whole b) from (Some (k + t))
+      ahead_at h = (
+        omega (arith, begun),
+        omega (arith, h, in_word),
+        there t in_word a sa ∙ less_l x y (k % 64 + t) is,
+        there t in_word b sb ∙ less_new x y (k % 64 + t) is,
+        farther t (λ u l. omega (arith, l, in_word)) (λ u l. least.first u l),
+      )

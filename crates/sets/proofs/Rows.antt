@@ -2,7 +2,7 @@
 -- Assumes nothing.
 use mathlib.Core.List.{List, [], ◌∷◌}
 use mathlib.Core.Path.{◌≡◌, refl, sym, ap, ◌∙◌}
-use Prim.Native.Nat.{ℕ, zero, suc}
+use Prim.Native.Nat.{ℕ, zero, suc, ◌+◌, ◌*◌, ◌^◌}
 use lib.ListN.{length, get_or, set, replicate, length-map, get_or-map}
 use Rattle.flags.specs.Flag.{put}
 use Rattle.sets.specs.Whole.{words, whole, rows}
@@ -28,9 +28,10 @@ pub rows_same : (n : ℕ) (s : List ℕ) → rows (replicate n s) ≡ replicate 
 rows_same zero s = refl
 rows_same (suc n) s = ap (λ (l : List ℕ). whole s ∷ l) (rows_same n s)
 
-pub none_whole : whole (replicate words 0) ≡ 0
+pub none_whole : (n : ℕ) → whole (replicate n 0) ≡ 0
 unfolding whole
-none_whole = refl
+none_whole zero = refl
+none_whole (suc n) = ap (λ (w : ℕ). w * 2 ^ 64 + 0) (none_whole n)
 
 pub rows_none : (n : ℕ) → rows (replicate n (replicate words 0)) ≡ replicate n 0
-rows_none n = rows_same n (replicate words 0) ∙ ap (replicate n) none_whole
+rows_none n = rows_same n (replicate words 0) ∙ ap (replicate n) (none_whole words)

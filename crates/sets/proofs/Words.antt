@@ -5,25 +5,18 @@ use mathlib.Core.Path.{◌≡◌, refl, sym, ap, ap₂, ◌∙◌}
 use Prim.Native.Nat.{ℕ, zero, suc, ◌+◌, ◌-◌, ◌*◌, ◌/◌, ◌%◌, ◌^◌, ◌<◌, ◌≤◌}
 use native.Mathlib.Decide.{ℕ_discrete}
 use native.Mathlib.Nat.{one-mul, mul_comm, add-zero, zero-lt-suc}
-use native.Mathlib.Numerals.{add-one}
 use native.Mathlib.Omega.{arith}
 use lib.Bits.{bit_or, bit_and, bit_xor, or_block, and_block, xor_block, and_lt, or_zero_r}
 use lib.Count.{ones, ones_cat, ones-le}
 use lib.Dec.{eqb}
-use lib.ListN.{length, get_or, set, replicate, length-set}
+use lib.ListN.{length, get_or, set, length-set}
 use lib.Pow.{pow_pos, pow-lt, pow-add, high, low, field, mod-mod-pow, shr-shr}
 use lib.Seq.{get_or-set_same, get_or-set_other}
-use mir.Val.{Fits}
-use mir.Syntax.{w64}
 use Rattle.flags.specs.Flag.{digit, flag, put, either, both, less}
 use Rattle.flags.proofs.Digit.{flag_zero}
 use Rattle.flags.proofs.Pair.{less_zero}
 use Rattle.flags.proofs.Put.{put_lt}
-use Rattle.sets.specs.Whole.{words, Small, whole, counted}
-
--- each word has its digits
-pub fits_small : (ws : List ℕ) → ((i : ℕ) → Fits w64 (get_or ws i 0)) → Small ws
-fits_small ws f i = (f i).fits
+use Rattle.sets.specs.Whole.{Small, whole, counted}
 
 -- ---- the digits of a long word: those of its lowest word, then those of the rest
 
@@ -59,8 +52,8 @@ whole-flag (w ∷ ws) (suc i) j s h =
     ap (flag (whole ws * 2 ^ 64 + w)) e ∙ flag_high (whole ws) w (i * 64 + j) (s 0) ∙ whole-flag ws i j (λ k. s (suc k)) h
 
 -- flag k stands in word k / 64
-pub whole-at : (ws : List ℕ) (k : ℕ) → Small ws → flag (whole ws) k ≡ flag (get_or ws (k / 64) 0) (k % 64)
-whole-at ws k s =
+pub whole_at : (ws : List ℕ) (k : ℕ) → Small ws → flag (whole ws) k ≡ flag (get_or ws (k / 64) 0) (k % 64)
+whole_at ws k s =
     let e : k ≡ k / 64 * 64 + k % 64 = omega arith in
     ap (flag (whole ws)) e ∙ whole-flag ws (k / 64) (k % 64) s (omega arith)
 
@@ -69,9 +62,6 @@ whole-at ws k s =
 counted_shift : (w : ℕ) (ws : List ℕ) (i : ℕ) → counted (w ∷ ws) (suc i) ≡ ones w + counted ws i
 counted_shift w ws zero = omega arith
 counted_shift w ws (suc i) = omega (arith, counted_shift w ws i)
-
-pub counted-more : (ws : List ℕ) (i : ℕ) → counted ws (i + 1) ≡ counted ws i + ones (get_or ws i 0)
-counted-more ws i = ap (counted ws) (add-one i)
 
 pub whole_ones : (ws : List ℕ) → Small ws → ones (whole ws) ≡ counted ws (length ws)
 unfolding whole ones
@@ -170,29 +160,13 @@ out_whole n ws k (len, s) h =
 
 -- ---- two sets, word by word: what is done to the words is done to the sets
 
--- the first i words of r are made from those of a and b
-pub record WordsMade (op : ℕ → ℕ → ℕ) (a b : List ℕ) (i : ℕ) (r : List ℕ) : Type 0 where
-  pub within : i ≤ words
-  pub long : length r ≡ words
-  pub made : (j : ℕ) → j < i → get_or r j 0 ≡ op (get_or a j 0) (get_or b j 0)
-
 -- an operation that goes word by word
 pub record Wordwise (op : ℕ → ℕ → ℕ) : Type 0 where
   pub nothing : op 0 0 ≡ 0
   pub block : (a b r s : ℕ) → r < 2 ^ 64 → s < 2 ^ 64 → op (a * 2 ^ 64 + r) (b * 2 ^ 64 + s) ≡ op a b * 2 ^ 64 + op r s
 
 module _ {op : ℕ → ℕ → ℕ} where
-  pub made_none : {a b : List ℕ} → WordsMade op a b 0 (replicate words 0)
-  made_none = record { within = omega arith; long = refl; made = λ j h. absurd (omega (arith, h)) }
-
-  pub made_more : {a b r : List ℕ} {i : ℕ} (w : ℕ) → i < words → w ≡ op (get_or a i 0) (get_or b i 0) → WordsMade op a b i r → WordsMade op a b (i + 1) (set r i w)
-  made_more {a} {b} {r} {i} w h e was = record { within = omega (arith, h); long = length-set r i w ∙ was.long; made = λ j l. go j l (ℕ_discrete j i) }
-    where
-      go : (j : ℕ) → j < i + 1 → Dec (j ≡ i) → get_or (set r i w) j 0 ≡ op (get_or a j 0) (get_or b j 0)
-      go j l (yes p) = rw p (get_or-set_same r i w 0 (omega (arith, h, was.long)) ∙ e)
-      go j l (no n) = get_or-set_other r i j w 0 n ∙ was.made j (omega arith)
-
-  all_words : Wordwise op → (a b r : List ℕ) (n : ℕ) → length a ≡ n → length b ≡ n → length r ≡ n → Small a → Small b
+  pub all_words : Wordwise op → (a b r : List ℕ) (n : ℕ) → length a ≡ n → length b ≡ n → length r ≡ n → Small a → Small b
       → ((j : ℕ) → j < n → get_or r j 0 ≡ op (get_or a j 0) (get_or b j 0))
       → whole r ≡ op (whole a) (whole b)
   unfolding whole
@@ -208,19 +182,14 @@ module _ {op : ℕ → ℕ → ℕ} where
       (m 0 (zero-lt-suc n))
       ∙ sym (o.block (whole a) (whole b) x y (s 0) (t 0))
 
-  pub made_all : {a b r : List ℕ} {i : ℕ} → Wordwise op → WordsMade op a b i r → words ≤ i → length a ≡ words → length b ≡ words
-      → ((j : ℕ) → Fits w64 (get_or a j 0)) → ((j : ℕ) → Fits w64 (get_or b j 0)) → whole r ≡ op (whole a) (whole b)
-  made_all {a} {b} {r} o was end p q s t =
-      all_words o a b r words p q was.long (fits_small a s) (fits_small b t) (λ j h. was.made j (omega (arith, h, end)))
-
-pub either-words : Wordwise either
+pub either_wordwise : Wordwise either
 unfolding either
-either-words = record { nothing = refl; block = λ a b r s p q. or_block 64 a b r s p q }
+either_wordwise = record { nothing = refl; block = λ a b r s p q. or_block 64 a b r s p q }
 
-pub both_words : Wordwise both
+pub both_wordwise : Wordwise both
 unfolding both
-both_words = record { nothing = refl; block = λ a b r s p q. and_block 64 a b r s p q }
+both_wordwise = record { nothing = refl; block = λ a b r s p q. and_block 64 a b r s p q }
 
-pub less-words : Wordwise less
+pub less_wordwise : Wordwise less
 unfolding less
-less-words = record { nothing = refl; block = less_block }
+less_wordwise = record { nothing = refl; block = less_block }

@@ -1,6 +1,6 @@
 -- A set of several words is one long word: its flags are those of the words, one after the other, lowest word first.
 -- Assumes nothing.
-use Rattle.std.specs.Prelude.{true, false, List, [], ◌∷◌, map, ◌≡◌, ℕ, zero, suc, ◌+◌, ◌*◌, ◌^◌, ◌<◌, ◌≤◌, get_or}
+use Rattle.std.specs.Prelude.{true, false, Option, Some, None, List, [], ◌∷◌, map, ◌≡◌, ℕ, zero, suc, ◌+◌, ◌*◌, ◌^◌, ◌<◌, ◌≤◌, get_or}
 use Rattle.std.specs.Int.Count.{ones}
 use Rattle.flags.specs.Flag.{flag}
 
@@ -30,6 +30,10 @@ rows t = map whole t
 abbrev pub most : ℕ
 most = words * 64
 
+-- each number of a is in b
+abbrev pub Inside : ℕ → ℕ → Type 0
+Inside a b = (k : ℕ) → flag a k ≡ true → flag b k ≡ true
+
 -- k is in a and not in b, and no lower number is
 pub record Lowest (a b k : ℕ) : Type 0 where
   pub node : k < most
@@ -37,13 +41,12 @@ pub record Lowest (a b k : ℕ) : Type 0 where
   pub new : flag b k ≡ false
   pub first : (j : ℕ) → j < k → flag a j ≡ true → flag b j ≡ true
 
--- k is the lowest that is in a and not in b; where all of a is in b it is as many as a set can have
-pub record LowestOf (a b k : ℕ) : Type 0 where
-  pub one : (k ≡ most → ⊥) → Lowest a b k
-  pub none : k ≡ most → (j : ℕ) → flag a j ≡ true → flag b j ≡ true
+-- the lowest number that is in a and not in b; none where all of a is in b
+abbrev pub LowestOf : ℕ → ℕ → Option ℕ → Type 0
+LowestOf a b (Some k) = Lowest a b k
+LowestOf a b None = Inside a b
 
--- k is the lowest from `from` on that is in a and not in b; where there is none it is as many as a set can have
-pub record Ahead (a b from k : ℕ) : Type 0 where
-  pub passed : (j : ℕ) → from ≤ j → j < k → flag a j ≡ true → flag b j ≡ true
-  pub one : (k ≡ most → ⊥) → (from ≤ k) × (k < most) × (flag a k ≡ true) × (flag b k ≡ false)
-  pub none : k ≡ most → (j : ℕ) → from ≤ j → flag a j ≡ true → flag b j ≡ true
+-- the lowest number from `from` on that is in a and not in b; none where there is none
+abbrev pub Ahead : ℕ → ℕ → ℕ → Option ℕ → Type 0
+Ahead a b from (Some k) = (from ≤ k) × (k < most) × (flag a k ≡ true) × (flag b k ≡ false) × ((j : ℕ) → from ≤ j → j < k → flag a j ≡ true → flag b j ≡ true)
+Ahead a b from None = (j : ℕ) → from ≤ j → flag a j ≡ true → flag b j ≡ true

@@ -10,7 +10,7 @@ use sets::{Set, either, has};
 use words::Sets;
 
 // The nodes that are ordered after the first if they come next, once the route has gone on to v.
-pub fn mark_on<'a, 'b>(fits: &'a Sets, after: &'b mut Set, v: usize)
+pub fn mark_on(fits: &Sets, after: &mut Set, v: usize)
     requires { v < most_nodes }
     ensures { whole after.new ≡ mark (rows fits.now) (whole after.old) v }
 {
@@ -20,11 +20,10 @@ pub fn mark_on<'a, 'b>(fits: &'a Sets, after: &'b mut Set, v: usize)
 }
 
 // The same, of a set by value.
-pub fn marked<'a>(fits: &'a Sets, after: Set, v: usize) -> Set
+pub fn marked(fits: &Sets, mut after: Set, v: usize) -> Set
     requires { v < most_nodes }
     ensures { whole result ≡ mark (rows fits.now) (whole after) v }
 {
-    let mut more = after;
-    mark_on(fits, &mut more, v);
-    more
+    mark_on(fits, &mut after, v);
+    after
 }

@@ -2,43 +2,36 @@
 #![tactic(auto)]
 
 ghost use Rattle.std.specs.Prelude.{List, ℕ};
-ghost use Rattle.outcome.specs.Outcome.{StripOutcome};
+ghost use Rattle.outcome.specs.Outcome.{StripOutcome, reported};
 ghost use Rattle.request.specs.Value.{Ready, request_in};
 ghost use Rattle.request.specs.Proper.{Reads};
 
 use fencing::off::{names_above, take_off};
 use graph::Graph;
-use outcome::{Report, refused};
-use request::Answer;
+use outcome::Report;
+use request::{Answer, Refusal};
 use writing::{size_of, write_request};
 
-pub fn strip(g: Graph, count: u64, out: &mut [u8]) -> Report
+// Writes the graph with fences taken off until so many nodes are left.
+pub fn strip(g: Graph, count: u64, out: &mut [u8]) -> Result<Report, Refusal>
     requires { Ready g }
-    ensures { (s : List ℕ) → Reads s (request_in g) → StripOutcome s count out.old result out.new }
+    ensures { (s : List ℕ) → Reads s (request_in g) → StripOutcome s count out.old (reported result) out.new }
 {
-    let n = g.node_count;
-    if (n as u64) < count {
-        return refused(Answer::NotLoose, 0);
+    let nodes = g.nodes.len();
+    if (nodes as u64) < count {
+        return Err(Answer::NotLoose.at(0));
     }
     let c = count as usize;
-    let orders = g.orders;
-    if names_above(orders, g.order_count, c) {
-        return refused(Answer::NotLoose, 0);
+    if names_above(&g.orders, c) {
+        return Err(Answer::NotLoose.at(0));
     }
     let left = take_off(g, c);
-    let graph = left.graph;
-    if c < graph.node_count {
-        return refused(Answer::NotLoose, 0);
+    if c < left.graph.nodes.len() {
+        return Err(Answer::NotLoose.at(0));
     }
-    if out.len() < size_of(graph) {
-        return refused(Answer::ShortBuffer, 0);
+    if out.len() < size_of(&left.graph) {
+        return Err(Answer::ShortBuffer.at(0));
     }
-    let length = write_request(out, graph);
-    Report {
-        answer: 0,
-        place: 0,
-        fences: (n - c) as u64,
-        weight: left.weight,
-        length: length as u64,
-    }
+    let length = write_request(out, &left.graph);
+    Ok(Report::done((nodes - c) as u64, left.weight, length as u64))
 }

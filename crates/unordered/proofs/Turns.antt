@@ -1,30 +1,32 @@
 -- One way on from a pair, edge by edge, and the end of the search.
 -- Assumes nothing.
 use mathlib.Core.Bool.{true, false}
-use mathlib.Core.List.{List, [], ◌∷◌, ◌++◌}
+use mathlib.Core.List.{List, [], ◌∷◌, ◌++◌, map-append}
 use mathlib.Core.Logic.{◌⊎◌, ⊎_elim, ◌≢◌}
 use mathlib.Core.Path.{◌≡◌, refl, sym, ap, ◌∙◌, subst, subst⁻¹}
 use Prim.Native.Nat.{ℕ, ◌+◌, ◌<◌, ◌≤◌}
 use native.Mathlib.Omega.{arith}
-use lib.ListN.{length, get_or, set, take, length-append}
+use lib.ListN.{length, get_or, set, length-append}
 use lib.Seq.{get_or-set_other}
 use Rattle.flags.specs.Flag.{flag, put}
 use Rattle.flags.proofs.Put.{put_same, put_keeps}
 use Rattle.graph.specs.Limits.{most_nodes}
 use Rattle.hope.specs.Hope.{Dominated, most_pairs}
+use Rattle.std.specs.Prelude.{Some}
 use Rattle.step.specs.Rest.{mark}
 use Rattle.hope.proofs.Sifted.{Lookout, Sifted, sifted_start, sifted_all, sifted_next, sifted_pass, sifted_new}
-use Rattle.route.specs.declared.EdgeRoute.{EdgeRoute}
 use Rattle.route.specs.Way.{Net, EdgeLists, Remains}
 use Rattle.walked.specs.Unordered.{Unordered, FoundUnordered}
 use Rattle.graph.proofs.Walked.{follows_up}
 use Rattle.walk.proofs.Sought.{passed}
 use Rattle.walked.specs.Steps.{Leading}
 use Rattle.walked.proofs.Fills.{fills_exist}
-use Rattle.unordered.specs.Pairs.{LastOf, Trail}
+use Rattle.unordered.specs.Pairs.{nodes, Trail}
+use Rattle.unordered.specs.declared.pairs.Pair.{Pair}
 use Rattle.walked.proofs.Along.{At, at-start, none_before, at_next, none_between, at_up, at_high}
 use Rattle.walked.proofs.Chains.{chain_found}
-use Rattle.unordered.proofs.Trails.{Query, PairList, Steps, with_pair, Trails, trails_add, Arrived, arrived}
+use Rattle.unordered.proofs.Pushed.{pushed_same, pushed_long}
+use Rattle.unordered.proofs.Trails.{Query, Steps, Trails, trails_add, Arrived, arrived}
 
 -- ---- the pairs looked at
 
@@ -37,154 +39,151 @@ abbrev pub lookout : Query → List ℕ → Lookout
 lookout s succ = record { succ = succ; fits = s.fits; goal = s.goal; visited = put 0 s.a; after = get_or s.fits s.a 0; v = s.a }
 
 -- the ways on from the first i pairs are covered
-pub record Done (s : Query) (p : PairList) (i : ℕ) : Type 0 where
-  pub ways : (succ : List ℕ) → Leads-by s succ → Sifted (lookout s succ) p.nodes p.words p.n i (put 0 s.a)
+pub record Done (s : Query) (ps : List Pair) (words : List ℕ) (i : ℕ) : Type 0 where
+  pub ways : (succ : List ℕ) → Leads-by s succ → Sifted (lookout s succ) (nodes ps) words (length ps) i (put 0 s.a)
 
 -- and those from pair i over the edges before e
-pub record Half (s : Query) (p : PairList) (succ : List ℕ) (i e : ℕ) : Type 0 where
+pub record Half (s : Query) (ps : List Pair) (words succ : List ℕ) (i e : ℕ) : Type 0 where
   pub tried : ℕ
-  pub sifted : Sifted (lookout s succ) p.nodes p.words p.n i tried
-  pub gone : (x q : ℕ) → x < e → Steps s x (get_or p.nodes i 0) q → flag tried q ≡ true
+  pub sifted : Sifted (lookout s succ) (nodes ps) words (length ps) i tried
+  pub gone : (x q : ℕ) → x < e → Steps s x (get_or (nodes ps) i 0) q → flag tried q ≡ true
 
 -- while the edges of pair i are looked at, e being the next
-pub record Turn (s : Query) (p : PairList) (i ordered e : ℕ) : Type 0 where
+pub record Turn (s : Query) (ps : List Pair) (words : List ℕ) (i ordered e : ℕ) : Type 0 where
   pub end : e ≤ length s.from
-  pub within : i < p.n
-  pub at : At s.from (get_or p.nodes i 0) e
-  pub same : ordered ≡ get_or p.words i 0
-  pub trails : Trails s p
-  pub halves : (succ : List ℕ) → Leads-by s succ → Half s p succ i e
+  pub within : i < length ps
+  pub at : At s.from (get_or (nodes ps) i 0) e
+  pub same : ordered ≡ get_or words i 0
+  pub trails : Trails s ps words
+  pub halves : (succ : List ℕ) → Leads-by s succ → Half s ps words succ i e
 
-pub done_start : {s : Query} {p : PairList} (nodes₀ words₀ : List ℕ)
-    → length nodes₀ ≡ most_pairs → length words₀ ≡ most_pairs → p.nodes ≡ set nodes₀ 0 s.a → p.words ≡ set words₀ 0 (get_or s.fits s.a 0)
-    → p.n ≡ 1 → s.a < most_nodes
-    → Done s p 0
-done_start nodes₀ words₀ l k e f one h = record { ways = λ succ by. rw one (sifted_start nodes₀ words₀ l k e f h) }
+pub done_start : {s : Query} {words : List ℕ} (p : Pair) (words₀ : List ℕ) → p.node ≡ s.a → s.a < most_nodes
+    → length words₀ ≡ most_pairs → words ≡ set words₀ 0 (get_or s.fits s.a 0) → Done s (p ∷ []) words 0
+done_start p words₀ node h k f = record { ways = λ succ by. sifted_start words₀ k (ap (λ (x : ℕ). x ∷ []) node) f h }
 
-pub turn_start : {s : Query} {p : PairList} {i ordered u e : ℕ} (links : List ℕ) → EdgeLists s.from links 0
-    → Done s p i → Trails s p → i < p.n → ordered ≡ get_or p.words i 0 → u ≡ get_or p.nodes i 0 → e ≡ get_or links u 0
-    → Turn s p i ordered e
-turn_start {s} {p} {i} {ordered} {u} {e} links ln d t h o is first = record {
-  end = at_high s.from links ln (get_or p.nodes i 0) e (t.low i h) here;
+pub turn_start : {s : Query} {ps : List Pair} {words : List ℕ} {i ordered e : ℕ} (links : List ℕ) → EdgeLists s.from links 0
+    → Done s ps words i → Trails s ps words → i < length ps → ordered ≡ get_or words i 0 → e ≡ get_or links (get_or (nodes ps) i 0) 0
+    → Turn s ps words i ordered e
+turn_start {s} {ps} {words} {i} {ordered} {e} links ln d t h o first = record {
+  end = at_high s.from links ln (get_or (nodes ps) i 0) e (t.low i h) first;
   within = h;
-  at = at-start s.from links ln (get_or p.nodes i 0) e (t.low i h) here;
+  at = at-start s.from links ln (get_or (nodes ps) i 0) e (t.low i h) first;
   same = o;
   trails = t;
   halves = λ succ by. record {
     tried = put 0 s.a;
     sifted = d.ways succ by;
-    gone = λ x q l g. absurd (none_before s.from links ln (get_or p.nodes i 0) e (t.low i h) here x l g.2);
+    gone = λ x q l g. absurd (none_before s.from links ln (get_or (nodes ps) i 0) e (t.low i h) first x l g.2);
   };
 }
-  where
-    here : e ≡ get_or links (get_or p.nodes i 0) 0
-    here = first ∙ ap (λ (x : ℕ). get_or links x 0) is
 
 -- all edges of pair i are looked at
-pub turn_end : {s : Query} {p : PairList} {i ordered e : ℕ} → Turn s p i ordered e → length s.from ≤ e → Done s p (i + 1)
-turn_end {s} {p} {i} t l = record {
+pub turn_end : {s : Query} {ps : List Pair} {words : List ℕ} {i ordered e : ℕ} → Turn s ps words i ordered e → length s.from ≤ e → Done s ps words (i + 1)
+turn_end {s} {ps} {i = i} t l = record {
   ways = λ succ by.
       let h = t.halves succ by in
-      sifted_next h.sifted (λ k m. let g = (by (get_or p.nodes i 0) k).0 m in h.gone g.0 k (omega (arith, g.1.0, l)) g.1);
+      sifted_next h.sifted (λ k m. let g = (by (get_or (nodes ps) i 0) k).0 m in h.gone g.0 k (omega (arith, g.1.0, l)) g.1);
 }
 
 -- ---- one edge
 
--- the same of lists that are equal
-pub turn_same : {s : Query} {p : PairList} {i ordered e : ℕ} {nodes words via parent prior heads : List ℕ} {n : ℕ}
-    → nodes ≡ p.nodes → words ≡ p.words → via ≡ p.via → parent ≡ p.parent → prior ≡ p.prior → heads ≡ p.heads → n ≡ p.n
-    → Turn s p i ordered e
-    → Turn s (record { nodes = nodes; words = words; via = via; parent = parent; prior = prior; heads = heads; n = n }) i ordered e
-turn_same e₁ e₂ e₃ e₄ e₅ e₆ e₇ t = rw (e₁, e₂, e₃, e₄, e₅, e₆, e₇) t
+-- edge e of pair i is looked at, and e' is the one after it at its node
+pub record Looking (s : Query) (links : List ℕ) (ps : List Pair) (words : List ℕ) (i ordered e e' : ℕ) : Type 0 where
+  pub turn : Turn s ps words i ordered e
+  pub known : e < length s.from
+  pub linked : EdgeLists s.from links 0
+  pub next : e' ≡ get_or links (most_nodes + e) 0
 
-module _ {s : Query} {p : PairList} {i ordered e : ℕ} (t : Turn s p i ordered e) (lt : e < length s.from) where
-  step : {y : ℕ} → y ≡ get_or s.to e 0 → Remains s.left e → Steps s e (get_or p.nodes i 0) y
-  step q r = (lt, r, t.at lt, sym q)
+module _ {s : Query} {links : List ℕ} {ps : List Pair} {words : List ℕ} {i ordered e e' : ℕ} (k : Looking s links ps words i ordered e e') where
+  t : Turn s ps words i ordered e
+  t = k.turn
 
-  is_word : (y : ℕ) {w : ℕ} → w ≡ mark s.fits ordered y → w ≡ mark s.fits (get_or p.words i 0) y
+  step : {y : ℕ} → y ≡ get_or s.to e 0 → Remains s.left e → Steps s e (get_or (nodes ps) i 0) y
+  step q r = (k.known, r, t.at k.known, sym q)
+
+  is_word : (y : ℕ) {w : ℕ} → w ≡ mark s.fits ordered y → w ≡ mark s.fits (get_or words i 0) y
   is_word y q = q ∙ ap (λ (x : ℕ). mark s.fits x y) t.same
-
-  -- the node that the edge leads to, and the last pair that has it
-  pub turn_last : {y h : ℕ} → Net s.from s.to → y ≡ get_or s.to e 0 → h ≡ get_or p.heads y 0 → (y < most_nodes) × LastOf p.nodes y p.n h
-  turn_last {y} net q top = let low : y < most_nodes = omega (arith, q, net.head e lt) in (low, rw top (t.trails.tops y low))
 
   pub turn_arrived : {y w : ℕ} → y ≡ get_or s.to e 0 → w ≡ mark s.fits ordered y → Remains s.left e → s.goal < most_nodes → y ≡ s.goal
       → flag w s.goal ≡ false
-      → Arrived s p i e
+      → Arrived s ps i e
   turn_arrived {y} q m r g64 g f = arrived t.trails g64 t.within (step q r) g (is_word y m) f
 
-  module _ {e' : ℕ} (links : List ℕ) (ln : EdgeLists s.from links 0) (next : e' ≡ get_or links (most_nodes + e) 0) where
-    between : (x : ℕ) → x < e' → get_or s.from x 0 ≡ get_or p.nodes i 0 → (x < e) ⊎ (x ≡ e)
-    between = none_between s.from links ln (get_or p.nodes i 0) e e' t.at lt next
+  between : (x : ℕ) → x < e' → get_or s.from x 0 ≡ get_or (nodes ps) i 0 → (x < e) ⊎ (x ≡ e)
+  between = none_between s.from links k.linked (get_or (nodes ps) i 0) e e' t.at k.known k.next
 
-    on : ((succ : List ℕ) → Leads-by s succ → Half s p succ i e') → Turn s p i ordered e'
-    on h = record {
-      end = (at_up s.from links ln e e' lt next).1;
-      within = t.within;
-      at = at_next s.from links ln (get_or p.nodes i 0) e e' t.at lt next;
-      same = t.same;
-      trails = t.trails;
-      halves = h;
-    }
+  on : ((succ : List ℕ) → Leads-by s succ → Half s ps words succ i e') → Turn s ps words i ordered e'
+  on h = record {
+    end = (at_up s.from links k.linked e e' k.known k.next).1;
+    within = t.within;
+    at = at_next s.from links k.linked (get_or (nodes ps) i 0) e e' t.at k.known k.next;
+    same = t.same;
+    trails = t.trails;
+    halves = h;
+  }
 
-    -- nothing is left of edge e
-    pub turn_skip : get_or s.left e 0 ≡ 0 → Turn s p i ordered e'
-    turn_skip z = on (λ succ by.
+  -- nothing is left of edge e
+  pub turn_skip : get_or s.left e 0 ≡ 0 → Turn s ps words i ordered e'
+  turn_skip z = on (λ succ by.
+      let h = t.halves succ by in
+      record {
+        tried = h.tried;
+        sifted = h.sifted;
+        gone = λ x q l g. ⊎_elim (λ b. h.gone x q b g) (λ b. absurd (omega (arith, g.1, ap (λ (j : ℕ). get_or s.left j 0) b, z))) (between x l g.2);
+      })
+
+  module _ {y w : ℕ} (to-y : y ≡ get_or s.to e 0) (is : w ≡ mark s.fits ordered y) where
+    tried_on : {succ : List ℕ} (h : Half s ps words succ i e) (x q : ℕ) → x < e' → Steps s x (get_or (nodes ps) i 0) q → flag (put h.tried y) q ≡ true
+    tried_on h x q l g = ⊎_elim
+        (λ b. put_keeps h.tried y q (h.gone x q b g))
+        (λ b. let same : q ≡ y = sym g.3 ∙ ap (λ (j : ℕ). get_or s.to j 0) b ∙ sym to-y in rw same (put_same h.tried y))
+        (between x l g.2)
+
+    -- the way over it orders the goal, or comes to a pair that is no better than one that is known
+    pub turn_on : (flag w s.goal ≡ true) ⊎ ((y ≢ s.goal) × Dominated (nodes ps) words (length ps) y w) → Turn s ps words i ordered e'
+    turn_on c = on (λ succ by.
         let h = t.halves succ by in
-        record {
-          tried = h.tried;
-          sifted = h.sifted;
-          gone = λ x q l g. ⊎_elim (λ b. h.gone x q b g) (λ b. absurd (omega (arith, g.1, ap (λ (j : ℕ). get_or s.left j 0) b, z))) (between x l g.2);
-        })
+        record { tried = put h.tried y; sifted = sifted_pass h.sifted (is_word y is) refl c; gone = tried_on h })
 
-    module _ {y w : ℕ} (to-y : y ≡ get_or s.to e 0) (is : w ≡ mark s.fits ordered y) where
-      tried_on : {succ : List ℕ} (h : Half s p succ i e) (x q : ℕ) → x < e' → Steps s x (get_or p.nodes i 0) q → flag (put h.tried y) q ≡ true
-      tried_on h x q l g = ⊎_elim
-          (λ b. put_keeps h.tried y q (h.gone x q b g))
-          (λ b. let same : q ≡ y = sym g.3 ∙ ap (λ (j : ℕ). get_or s.to j 0) b ∙ sym to-y in rw same (put_same h.tried y))
-          (between x l g.2)
-
-      -- the way over it orders the goal, or comes to a pair that is no better than one that is known
-      pub turn_on : (flag w s.goal ≡ true) ⊎ ((y ≢ s.goal) × Dominated p.nodes p.words p.n y w) → Turn s p i ordered e'
-      turn_on c = on (λ succ by.
+    -- the pair is new
+    pub turn_add : (p : Pair) → p.node ≡ y → p.by ≡ Some (record { via = e; parent = i }) → y ≢ s.goal → length ps < most_pairs → y < most_nodes → Remains s.left e
+        → (Dominated (nodes ps) words (length ps) y w → ⊥) → Turn s (ps ++ p ∷ []) (set words (length ps) w) i ordered e'
+    turn_add p at come apart free y64 r new = record {
+      end = (at_up s.from links k.linked e e' k.known k.next).1;
+      within = omega (arith, t.within, pushed_long ps p);
+      at = subst⁻¹ (λ (x : ℕ). At s.from x e') node (at_next s.from links k.linked (get_or (nodes ps) i 0) e e' t.at k.known k.next);
+      same = t.same ∙ sym (get_or-set_other words (length ps) i w 0 (λ z. omega (arith, z, t.within)));
+      trails = trails_add t.trails p w (record { via = e; parent = i }) come t.within free (omega (arith, at, y64)) (λ z. apart (sym at ∙ z))
+          (rw at (step to-y r)) (rw at (is_word y is)) (rw at new);
+      halves = λ succ by.
           let h = t.halves succ by in
-          record { tried = put h.tried y; sifted = sifted_pass h.sifted (is_word y is) refl c; gone = tried_on h })
+          record {
+            tried = put h.tried y;
+            sifted = more (sifted_new h.sifted (is_word y is) refl apart t.within free y64);
+            gone = λ x q l g. tried_on h x q l (subst (λ (z : ℕ). Steps s x z q) node g);
+          };
+    }
+      where
+        node : get_or (nodes (ps ++ p ∷ [])) i 0 ≡ get_or (nodes ps) i 0
+        node = pushed_same (λ (q : Pair). q.node) 0 ps p i t.within
 
-      -- the pair is new
-      pub turn_add : y ≢ s.goal → p.n < most_pairs → y < most_nodes → Remains s.left e → (Dominated p.nodes p.words p.n y w → ⊥)
-          → Turn s (with_pair p i e y w) i ordered e'
-      turn_add apart free y64 r new = record {
-        end = (at_up s.from links ln e e' lt next).1;
-        within = omega (arith, t.within);
-        at = subst⁻¹ (λ (x : ℕ). At s.from x e') node (at_next s.from links ln (get_or p.nodes i 0) e e' t.at lt next);
-        same = t.same ∙ sym (get_or-set_other p.words p.n i w 0 (λ z. omega (arith, z, t.within)));
-        trails = trails_add t.trails i e y w t.within free y64 apart (step to-y r) (is_word y is) new;
-        halves = λ succ by.
-            let h = t.halves succ by in
-            record {
-              tried = put h.tried y;
-              sifted = sifted_new h.sifted (is_word y is) refl apart t.within free y64;
-              gone = λ x q l g. tried_on h x q l (subst (λ (z : ℕ). Steps s x z q) node g);
-            };
-      }
-        where
-          node : get_or (set p.nodes p.n y) i 0 ≡ get_or p.nodes i 0
-          node = get_or-set_other p.nodes p.n i y 0 (λ z. omega (arith, z, t.within))
+        more : {o : Lookout} {tried : ℕ} → Sifted o (nodes ps ++ y ∷ []) (set words (length ps) w) (length ps + 1) i tried
+            → Sifted o (nodes (ps ++ p ∷ [])) (set words (length ps) w) (length (ps ++ p ∷ [])) i tried
+        more z = rw (pushed_long, map-append (λ (q : Pair). q.node) ps (p ∷ []), at) z
 
 -- ---- the ends of the search
 
 -- what is found of a query
-abbrev pub Finds : Query → EdgeRoute → Type 0
+abbrev pub Finds : Query → List ℕ → Type 0
 Finds s = FoundUnordered s.from s.to s.fits s.left s.a s.goal
 
-pub nothing : (s : Query) {r : EdgeRoute} → r.len ≡ 0
-    → ((between : List ℕ) → Unordered s.from s.to s.fits (Remains s.left) s.a between s.goal → ⊥) → Finds s r
-nothing s z h = record { short = omega (arith, z); none = λ _. h; edge = λ k l. absurd (omega (arith, l, z)); way = λ l. absurd (omega (arith, l, z)) }
+pub nothing : (s : Query) → ((between : List ℕ) → Unordered s.from s.to s.fits (Remains s.left) s.a between s.goal → ⊥) → Finds s []
+nothing s h = record { short = omega arith; none = λ _. h; edge = λ k l. absurd (omega (arith, l)); way = λ l. absurd (omega (arith, l)) }
 
-module _ {s : Query} {r : EdgeRoute} where
+module _ {s : Query} where
   -- all pairs are looked at
-  pub done_found : {p : PairList} {i : ℕ} → Net s.from s.to → Done s p i → p.n ≤ i → r.len ≡ 0 → Finds s r
-  done_found net d all z = nothing s z none
+  pub done_found : {ps : List Pair} {words : List ℕ} {i : ℕ} → Net s.from s.to → Done s ps words i → length ps ≤ i → Finds s []
+  done_found net d all = nothing s none
     where
       ex : (succ : List ℕ) × Leads-by s succ
       ex = fills_exist s.from s.to s.left net
@@ -194,10 +193,8 @@ module _ {s : Query} {r : EdgeRoute} where
           (passed ex.0 s.fits s.a s.goal between
           record { follows = follows_up (λ x y. (ex.1 x y).1) s.a between s.goal u.follows; once = u.once })
 
-  pub arrived_found : {p : PairList} {i d : ℕ} → Arrived s p i d
-      → ((es : List ℕ) → Trail p.via p.parent i es → (r.len ≡ length es + 1) × (take r.len r.edges ≡ es ++ d ∷ [])) → Finds s r
+  pub arrived_found : {ps : List Pair} {i d : ℕ} {out : List ℕ} → Arrived s ps i d
+      → ((es : List ℕ) → Trail ps i es → out ≡ es ++ d ∷ []) → Finds s out
   arrived_found {d = d} v b =
-      let e = b v.es v.trail in
-      let l : length (v.es ++ d ∷ []) ≡ length v.es + 1 = length-append v.es (d ∷ []) in
-      chain_found s.from s.to s.fits s.left s.a s.goal (v.es ++ d ∷ []) v.seen r v.chain v.once v.unordered
-      (omega (arith, l, v.few)) (e.0 ∙ sym l) e.1
+      rw (b v.es v.trail) (chain_found s.from s.to s.fits s.left s.a s.goal (v.es ++ d ∷ []) v.seen v.chain v.once v.unordered
+      (omega (arith, length-append v.es (d ∷ []), v.few)))

@@ -1,135 +1,160 @@
 // The search over pairs of a node and what is ordered after the first when a route comes there. A pair is left out where an earlier one of its
 // node has a set within its own: what goes on from the one goes on from the other, and no way back to the first goes over a node twice.
-ghost use Rattle.std.specs.Prelude.{true, false, List, ◌∷◌, [], ◌++◌, ◌≢◌, ◌≡◌, ℕ, ◌+◌, ◌<◌, ◌≤◌, length, get_or, take};
+ghost use Rattle.std.specs.Prelude.{true, None, Some, List, ◌∷◌, [], ◌++◌, ◌↔◌, ◌≢◌, ◌≡◌, ℕ, ◌+◌, ◌<◌, ◌≤◌, length, slice_set, slice_index_or};
 ghost use Rattle.graph.specs.Limits.{most_nodes, most_edges};
 ghost use Rattle.hope.specs.Hope.{Dominated, most_pairs};
 ghost use Rattle.sets.specs.Whole.{whole, rows};
-ghost use Rattle.route.specs.Way.{Net, EdgeLists};
+ghost use Rattle.route.specs.Way.{starts, ends};
 ghost use Rattle.walked.specs.Unordered.{FoundUnordered};
-ghost use Rattle.unordered.specs.Pairs.{LastOf, Priors, Trail};
+ghost use Rattle.unordered.specs.Pairs.{Chained, Trail, nodes};
 
+use crate::Linked;
+use arrayvec::ArrayVec;
 use graph::Graph;
-use route::wide;
-use sets::{Set, has, lowest};
+use hope::pairs::PAIRS;
+use route::EdgeRoute;
+use sets::{Set, has, within};
 use step::marked;
 use walked::walked_route;
 use words::Sets;
 
-// How many pairs are kept before the walk is asked instead.
-const PAIRS: usize = Graph::NODES;
+// The edge by which a pair was come to, and the pair from which.
+#[derive(Clone, Copy)]
+pub struct By {
+    pub via: u16,
+    pub parent: u16,
+}
 
-// Whether a pair of this node has a set within w. The last of them is pair head - 1, and each has the one before it in `prior`, in the same way.
-fn known(kept: &Sets, prior: &[u16; PAIRS], head: usize, w: Set) -> bool
-    requires { (head ≤ most_pairs) × ((j : ℕ) → j < head → get_or prior.now j 0 ≤ j) }
-    ensures { (nodes : List ℕ) (y n : ℕ) → LastOf nodes y n head → Priors nodes prior.now n → (result ≡ true → Dominated nodes (rows kept.now) n y (whole w)) × (result ≡ false → Dominated nodes (rows kept.now) n y (whole w) → ⊥) }
-{
-    let mut h = head;
-    while 0 < h {
-        let j = h - 1;
-        if lowest(kept[j], w) == Graph::NODES {
-            return true;
+// A pair's node, how it was come to, where it is not the first, and the pair of its node before it.
+#[derive(Clone, Copy, Default)]
+pub struct Pair {
+    pub node: u16,
+    pub by: Option<By>,
+    pub prior: Option<u16>,
+}
+
+// The pairs in the order in which they were come to, and for each node the last that has it. Where there are more than these the walk is asked
+// instead, as `hope` gives up there. Their sets stand beside them, in a table that is lent: 32 KiB that no search has to clear.
+#[derive(Drop)]
+struct Pairs {
+    list: ArrayVec<Pair, PAIRS>,
+    last: [Option<u16>; Graph::NODES],
+    ghost chained: { Chained list.items last },
+}
+
+impl Pairs {
+    // The first pair alone.
+    fn start(a: usize) -> Self
+        requires { a < most_nodes }
+        ensures { result.list.items ≡ record { node = a; by = None; prior = None } ∷ [] }
+    {
+        let mut list = ArrayVec::new();
+        list.push(Pair {
+            node: a as u16,
+            by: None,
+            prior: None,
+        });
+        let mut last = [None; Graph::NODES];
+        last[a] = Some(0);
+        Pairs { list, last }
+    }
+
+    // Adds a pair of this node, come to from pair `parent` by the edge `via`.
+    fn add(&mut self, node: usize, via: usize, parent: usize)
+        requires room { length self.old.list.items < most_pairs }
+        requires known { (node < most_nodes) × (via < most_edges) × (parent < most_pairs) }
+        ensures { self.new.list.items ≡ self.old.list.items ++ record { node = node; by = Some (record { via = via; parent = parent }); prior = slice_index_or self.old.last node None } ∷ [] }
+    {
+        let n = self.list.len();
+        // by `as`: these fit, as is required, and a conversion that could fail would need an answer for it
+        self.list.push(Pair {
+            node: node as u16,
+            by: Some(By {
+                via: via as u16,
+                parent: parent as u16,
+            }),
+            prior: self.last[node],
+        });
+        self.last[node] = Some(n as u16);
+    }
+
+    // Whether a pair of node y has a set within w. Only the pairs of that node are looked at: they are a chain, from the last down.
+    fn known(&self, kept: &Sets, y: usize, w: &Set) -> bool
+        requires { y < most_nodes }
+        ensures { (result ≡ true) ↔ Dominated (nodes self.now.list.items) (rows kept.now) (length self.now.list.items) y (whole w.now) }
+    {
+        let list = self.list.as_slice();
+        let mut rest = self.last[y];
+        while let Some(j) = rest {
+            let j = usize::from(j);
+            if within(&kept[j], w) {
+                return true;
+            }
+            rest = list[j].prior;
         }
-        h = wide(prior[j]);
+        false
     }
-    false
+
+    // Writes the edges by which pair i was come to, and then one more: from the last to the first, and then turned round.
+    fn write_way(&self, i: usize, last: usize, out: &mut EdgeRoute)
+        requires { (i < length self.now.list.items) × (last < most_edges) × ((es : List ℕ) × Trail self.now.list.items i es × (length es + 1 ≤ most_nodes)) }
+        ensures { (es : List ℕ) → Trail self.now.list.items i es → out.new.items ≡ es ++ last ∷ [] }
+    {
+        let list = self.list.as_slice();
+        out.clear();
+        out.push(last as u16);
+        let mut j = i;
+        while let Some(by) = list[j].by {
+            out.push(by.via);
+            j = usize::from(by.parent);
+        }
+        out.reverse();
+    }
 }
 
-// By how many edges pair i was come to.
-fn depth(parent: &[u16; PAIRS], i: usize) -> usize
-    requires { (i < most_pairs) × ((j : ℕ) → 0 < j → j ≤ i → get_or parent.now j 0 < j) }
-    ensures { (via es : List ℕ) → Trail via parent.now i es → result ≡ length es }
-{
-    let mut d = 0;
-    let mut j = i;
-    while 0 < j {
-        j = wide(parent[j]);
-        d += 1;
-    }
-    d
-}
-
-// Writes the edges by which pair i was come to, and then one more; how many they are.
-fn back(
-    via: &[u16; PAIRS],
-    parent: &[u16; PAIRS],
-    i: usize,
-    last: usize,
-    out: &mut [u16; Graph::NODES],
-) -> usize
-    requires pair { (i < most_pairs) × ((j : ℕ) → 0 < j → j ≤ i → get_or parent.now j 0 < j) }
-    requires edge { (last < most_edges) × ((es : List ℕ) × Trail via.now parent.now i es × (length es + 1 ≤ most_nodes)) }
-    requires room { length out.old ≡ most_nodes }
-    ensures { (length out.new ≡ most_nodes) × ((es : List ℕ) → Trail via.now parent.now i es → (result ≡ length es + 1) × (take result out.new ≡ es ++ last ∷ [])) }
-{
-    let d = depth(parent, i);
-    let mut at = d;
-    out[at] = last as u16;
-    let mut j = i;
-    while 0 < j {
-        at -= 1;
-        out[at] = via[j];
-        j = wide(parent[j]);
-    }
-    d + 1
-}
-
-// The edges of a route from a to goal that does not order its ends and on which no edge is gone: an edge with nothing left is. They are
-// written to `out`; how many they are is returned, 0 where there is no such route. Until then `out` has the nodes of the pairs, and for each
-// pair `kept` has its set, `via` the edge and `parent` the pair that it was come to by, `prior` the pair of its node before it; `heads` has the
-// last pair of each node. What is lent may have anything: of it nothing is read that was not written.
+// The same as `find_route`, by the pairs: a and goal, and what is left, are handed on one by one, as each function requires only what it reads.
+// For each pair `kept` has its set; of what it had before nothing is read.
 pub fn spread(
-    from: &[u16],
-    to: &[u16],
-    links: &[u16; Graph::NODES + Graph::EDGES],
-    fits: &Sets,
+    net: &Linked<'_>,
     left: &[u16; Graph::EDGES],
     a: usize,
     goal: usize,
     kept: &mut Sets,
-    out: &mut [u16; Graph::NODES],
-) -> usize
-    requires net { Net from.now to.now × EdgeLists from.now links.now 0 }
-    requires ends { (a < most_nodes) × (goal < most_nodes) × (a ≢ goal) }
-    requires room { (length kept.old ≡ most_pairs) × (length out.old ≡ most_nodes) }
-    ensures { (length out.new ≡ most_nodes) × FoundUnordered from.now to.now (rows fits.now) left.now a goal (record { edges = out.new; len = result }) }
+    out: &mut EdgeRoute,
+)
+    requires { (a < most_nodes) × (goal < most_nodes) × (a ≢ goal) }
+    ensures { FoundUnordered (starts net.now.edges.now) (ends net.now.edges.now) (rows net.now.fits.now) left.now a goal out.new.items }
 {
-    let mut via = [0u16; PAIRS];
-    let mut parent = [0u16; PAIRS];
-    let mut prior = [0u16; PAIRS];
-    let mut heads = [0u16; Graph::NODES];
-    out[0] = a as u16;
-    kept[0] = fits[a];
-    heads[a] = 1;
-    let mut n = 1;
+    let mut pairs = Pairs::start(a);
+    kept[0] = net.fits[a];
     let mut i = 0;
-    while i < n {
+    // by index: the list grows while it is read
+    while i < pairs.list.len() {
         let ordered = kept[i];
-        let mut e = wide(links[wide(out[i])]);
-        while e < from.len() {
-            if left[e] != 0 {
-                let y = wide(to[e]);
-                let w = marked(fits, ordered, y);
-                if !has(&w, goal) {
-                    if y == goal {
-                        return back(&via, &parent, i, e, out);
-                    }
-                    if !known(kept, &prior, wide(heads[y]), w) {
-                        if n == PAIRS {
-                            return walked_route(from, to, links, fits, left, a, goal, kept, out);
-                        }
-                        out[n] = y as u16;
-                        kept[n] = w;
-                        via[n] = e as u16;
-                        parent[n] = i as u16;
-                        prior[n] = heads[y];
-                        n += 1;
-                        heads[y] = n as u16;
-                    }
-                }
+        for e in net.outs.at(usize::from(pairs.list[i].node), net.edges) {
+            if left[e] == 0 {
+                continue;
             }
-            e = wide(links[Graph::NODES + e]);
+            let y = usize::from(net.edges[e].to);
+            let w = marked(net.fits, ordered, y);
+            if has(&w, goal) {
+                continue;
+            }
+            if y == goal {
+                pairs.write_way(i, e, out);
+                return;
+            }
+            if pairs.known(kept, y, &w) {
+                continue;
+            }
+            if pairs.list.is_full() {
+                walked_route(net.edges, net.outs, net.fits, left, a, goal, kept, out);
+                return;
+            }
+            kept[pairs.list.len()] = w;
+            pairs.add(y, e, i);
         }
         i += 1;
     }
-    0
+    out.clear();
 }

@@ -7,7 +7,7 @@ use mathlib.Core.Path.{◌≡◌, refl, ap, subst, subst⁻¹, ◌∙◌}
 use Prim.Native.Nat.{ℕ, ◌<◌, ◌≤◌}
 use native.Mathlib.Omega.{arith}
 use lib.Count.{ones}
-use lib.ListN.{length, get_or, take}
+use lib.ListN.{length, get_or, take, length-take}
 use Rattle.flags.specs.Flag.{put}
 use Rattle.flags.proofs.Put.{put_zero_count}
 use Rattle.graph.specs.declared.Rule.{Rule}
@@ -83,18 +83,23 @@ module _ {g : Graph} {rules : List Rule} {c : List ℕ} (succ fits : List ℕ) (
 -- ---- what the walk shows, by where it starts: the first node alone is visited, and what its rules order is ordered after it
 
 module _ {succ fits : List ℕ} {a b visited after : ℕ} (alone : visited ≡ put 0 a) (ordered : after ≡ get_or fits a 0) where
-  pub none_shown : ((l : List ℕ) → GoesOn succ fits b visited after a l → ⊥) → (0 ≤ most_nodes) × AskedOf succ fits a b [] × ByTables succ fits a b []
+  pub none_shown : ((l : List ℕ) → GoesOn succ fits b visited after a l → ⊥) → AskedOf succ fits a b [] × ByTables succ fits a b []
   none_shown nothing =
       let n = rw (alone, ordered) at nothing in
-      (omega arith, λ g rules c words. none_asked succ fits words a b n, none_sought succ fits a b n)
+      (λ g rules c words. none_asked succ fits words a b n, none_sought succ fits a b n)
 
   pub one_shown : {way : Bool} {visited' after' : ℕ} {nodes nodes' : List ℕ}
       → take 1 nodes ≡ a ∷ []
       → Decides (GoesOn succ fits b) a way visited visited' after after' nodes nodes'
       → way ≡ true
-      → (ones visited' ≤ most_nodes) × AskedOf succ fits a b (take (ones visited') nodes') × ByTables succ fits a b (take (ones visited') nodes')
-  one_shown {nodes = nodes} begins answer e =
+      → AskedOf succ fits a b (take (ones visited') nodes') × ByTables succ fits a b (take (ones visited') nodes')
+      × (0 < length (take (ones visited') nodes')) × (length (take (ones visited') nodes') ≤ most_nodes)
+  one_shown {visited' = visited'} {nodes = nodes} {nodes' = nodes'} begins answer e =
       let f = (rw (alone, ordered) at answer).found e in
       let first : take (ones (put 0 a)) nodes ≡ a ∷ [] = rw (put_zero_count a) begins in
-      let route = f.2 ∙ ap (λ (l : List ℕ). l ++ f.0) first in
-      (f.1, λ g rules c words. one_asked succ fits words a b route f.3, one_sought succ fits a b route f.3.one)
+      let route : take (ones visited') nodes' ≡ a ∷ f.0 = f.2 ∙ ap (λ (l : List ℕ). l ++ f.0) first in (
+        λ g rules c words. one_asked succ fits words a b route f.3,
+        one_sought succ fits a b route f.3.one,
+        omega (arith, ap length route),
+        omega (arith, length-take (ones visited') nodes', f.1),
+      )

@@ -2,28 +2,24 @@
 -- Assumes nothing.
 use mathlib.Core.Bool.{Bool, true, false}
 use mathlib.Core.List.{List}
-use mathlib.Core.Path.{◌≡◌, refl, sym, ap, ◌∙◌}
-use Prim.Native.Nat.{ℕ, ◌≤◌, ◌<◌}
-use lib.ListN.{length, take, get_or}
-use lib.Seq.{length-take-le}
+use mathlib.Core.Path.{◌≡◌, refl, sym, ◌∙◌}
+use Rattle.std.specs.Prelude.{Option}
+use Rattle.arrayvec.specs.ArrayVec.{ArrayVec}
+use Prim.Native.Nat.{ℕ, ◌<◌}
+use lib.ListN.{length, get_or}
 use Rattle.graph.specs.declared.Graph.{Graph}
 use Rattle.graph.specs.declared.Rule.{Rule}
 use Rattle.graph.specs.Graph as Drawn
 use Rattle.graph.specs.Value.{orders_of, Told}
 use Rattle.graph.proofs.Unique.{asked_unique}
-use Rattle.walk.specs.declared.NodeRoute.{NodeRoute}
-use Rattle.walk.specs.Asked.{AskedOf}
+use Rattle.walk.specs.Asked.{AskedOf, shown}
 use Rattle.words.specs.Words.{WordsOf}
 
-pub route_unique : {g : Drawn.Graph} {rules : List Rule} {c : List ℕ} (succ fits : List ℕ) → WordsOf g rules c succ fits → (a b : ℕ) (v w : NodeRoute)
-    → v.len ≤ length v.nodes
-    → w.len ≤ length w.nodes
-    → AskedOf succ fits a b (take v.len v.nodes)
-    → AskedOf succ fits a b (take w.len w.nodes)
-    → (v.len ≡ w.len) × (take v.len v.nodes ≡ take w.len w.nodes)
-route_unique {g} {rules} {c} succ fits of a b v w p q x y =
-    let e : take v.len v.nodes ≡ take w.len w.nodes = asked_unique (x g rules c of) (y g rules c of) in
-    (sym (length-take-le v.len v.nodes p) ∙ ap length e ∙ length-take-le w.len w.nodes q, e)
+pub route_unique : {g : Drawn.Graph} {rules : List Rule} {c : List ℕ} (succ fits : List ℕ) → WordsOf g rules c succ fits → (a b : ℕ) (v w : Option (ArrayVec ℕ))
+    → AskedOf succ fits a b (shown v)
+    → AskedOf succ fits a b (shown w)
+    → shown v ≡ shown w
+route_unique {g} {rules} {c} succ fits of a b v w x y = asked_unique (x g rules c of) (y g rules c of)
 
 pub told_unique : {g : Graph} (x y : List Bool) → Told g x → Told g y → (i : ℕ) → i < length (orders_of g) → get_or x i false ≡ get_or y i false
 told_unique x y p q i h = by (get_or x i false) refl (get_or y i false) refl

@@ -1,6 +1,7 @@
 -- What the walk shows of an order.
 -- Assumes nothing.
-use Rattle.std.specs.Prelude.{true, List, [], ◌≡◌, ℕ}
+use Rattle.std.specs.Prelude.{true, Option, Some, None, List, [], ◌≡◌, ℕ}
+use Rattle.arrayvec.specs.ArrayVec.{ArrayVec}
 use Rattle.graph.specs.declared.Rule.{Rule}
 use Rattle.graph.specs.Ask.{along, AskedWithout}
 use Rattle.graph.specs.Graph.{Graph}
@@ -10,6 +11,11 @@ use Rattle.words.specs.Words.{listed, WordsOf}
 -- what is shown of the order (a, b), whatever graph these tables are of
 abbrev pub AskedOf : List ℕ → List ℕ → ℕ → ℕ → List ℕ → Type 0
 AskedOf succ fits a b route = (g : Graph) (rules : List Rule) (c : List ℕ) → WordsOf g rules c succ fits → AskedWithout g rules c a b route
+
+-- the nodes of the route shown; none where none is
+abbrev pub shown : Option (ArrayVec ℕ) → List ℕ
+shown None = []
+shown (Some route) = route.items
 
 -- ---- and of these tables alone, be they a graph's or not
 

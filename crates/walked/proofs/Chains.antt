@@ -2,22 +2,20 @@
 -- Assumes nothing.
 use mathlib.Core.Bool.{false}
 use mathlib.Core.List.{List, [], ◌∷◌, ◌++◌}
-use mathlib.Core.Path.{◌≡◌, refl, sym, ap, ◌∙◌}
+use mathlib.Core.Path.{◌≡◌, refl, ◌∙◌}
 use Prim.Native.Nat.{ℕ, zero, suc, ◌+◌, ◌*◌, ◌<◌, ◌≤◌, ◌^◌}
 use native.Mathlib.Nat.{one-mul}
 use native.Mathlib.Omega.{arith}
 use lib.Bits.{or_lt}
 use lib.Count.{ones, ones-le}
-use lib.ListN.{length, get_or, take}
+use lib.ListN.{length, get_or}
 use lib.Pow.{pow-lt, pow_pos}
-use lib.Seq.{get_or-take}
 use Rattle.flags.specs.Flag.{flag, put}
 use Rattle.flags.proofs.Digit.{flag_zero}
 use Rattle.flags.proofs.Put.{put_count, put_other}
 use Rattle.graph.specs.Held.{Absent, Follows, NoneTwice, Ordered, Within}
 use Rattle.graph.specs.Ask.{along}
 use Rattle.graph.specs.Limits.{most_nodes}
-use Rattle.route.specs.declared.EdgeRoute.{EdgeRoute}
 use Rattle.walk.specs.Asked.{Lists}
 use Rattle.walked.specs.Unordered.{Out, Goes, Leads, FoundUnordered}
 use Rattle.route.specs.Way.{Remains}
@@ -67,18 +65,12 @@ module _ (from to : List ℕ) (A : ℕ → Type 0) where
   chain_led B (last {e = e} r) f = (e, (r.0, f 0 (omega arith), r.2, r.3))
   chain_led B (more {e = e} r c) f = ((e, (r.0, f 0 (omega arith), r.2, r.3)), chain_led B c (λ k h. f (suc k) (omega (arith, h))))
 
--- the edges of a chain, in a route
-pub chain_found : (from to fits left : List ℕ) (a b : ℕ) (es between : List ℕ) (r : EdgeRoute) → Chain (Goes from to (Remains left)) a es between b
-    → NoneTwice (along a between b) → (Ordered (Lists fits) a between b → ⊥) → length es ≤ most_nodes → r.len ≡ length es → take r.len r.edges ≡ es
-    → FoundUnordered from to fits left a b r
-chain_found from to fits left a b es between r c once un few n t = record {
-  short = omega (arith, few, n);
-  none = λ z. absurd (omega (arith, z, n, chain_long (Goes from to (Remains left)) c));
-  edge = λ k h. rw (at k h) (chain_edge from to (Remains left) c k (omega (arith, h, n)));
-  way = λ h s out.
-      let follows = chain_led from to (Remains left) (Out s) c (λ k q. rw (at k (omega (arith, q, n))) at (out k (omega (arith, q, n)))) in
-      (between, record { follows = follows; once = once; unordered = un });
+-- the edges of a chain are those of a route
+pub chain_found : (from to fits left : List ℕ) (a b : ℕ) (es between : List ℕ) → Chain (Goes from to (Remains left)) a es between b
+    → NoneTwice (along a between b) → (Ordered (Lists fits) a between b → ⊥) → length es ≤ most_nodes → FoundUnordered from to fits left a b es
+chain_found from to fits left a b es between c once un few = record {
+  short = few;
+  none = λ z. absurd (omega (arith, z, chain_long (Goes from to (Remains left)) c));
+  edge = λ k h. chain_edge from to (Remains left) c k h;
+  way = λ h s out. (between, record { follows = chain_led from to (Remains left) (Out s) c out; once = once; unordered = un });
 }
-  where
-    at : (k : ℕ) → k < r.len → get_or r.edges k 0 ≡ get_or es k 0
-    at k h = sym (get_or-take r.len r.edges k 0 h) ∙ ap (λ (x : List ℕ). get_or x k 0) t

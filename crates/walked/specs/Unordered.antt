@@ -4,7 +4,6 @@ use Rattle.std.specs.Prelude.{Bool, false, List, ◌≡◌, ℕ, ◌<◌, ◌≤
 use Rattle.graph.specs.Ask.{along}
 use Rattle.graph.specs.Held.{Follows, NoneTwice, Ordered}
 use Rattle.graph.specs.Limits.{most_nodes}
-use Rattle.route.specs.declared.EdgeRoute.{EdgeRoute}
 use Rattle.route.specs.Way.{Remains}
 use Rattle.walk.specs.Asked.{Lists}
 
@@ -31,9 +30,9 @@ abbrev pub Parts : List ℕ → List ℕ → List ℕ → ℕ → ℕ → List B
 Parts from to fits a b t = (between : List ℕ) → Unordered from to fits (Out t) a between b → ⊥
 
 -- no edge, and of the edges that are left there is no unordered route; or the edges of one
-pub record FoundUnordered (from to fits left : List ℕ) (a b : ℕ) (r : EdgeRoute) : Type 0 where
-  pub short : r.len ≤ most_nodes
-  pub none : r.len ≡ 0 → (between : List ℕ) → Unordered from to fits (Remains left) a between b → ⊥
-  pub edge : (k : ℕ) → k < r.len → (get_or r.edges k 0 < length from) × Remains left (get_or r.edges k 0)
-  pub way : 0 < r.len → (t : List Bool) → ((k : ℕ) → k < r.len → Out t (get_or r.edges k 0))
+pub record FoundUnordered (from to fits left : List ℕ) (a b : ℕ) (r : List ℕ) : Type 0 where
+  pub short : length r ≤ most_nodes
+  pub none : length r ≡ 0 → (between : List ℕ) → Unordered from to fits (Remains left) a between b → ⊥
+  pub edge : (k : ℕ) → k < length r → (get_or r k 0 < length from) × Remains left (get_or r k 0)
+  pub way : 0 < length r → (t : List Bool) → ((k : ℕ) → k < length r → Out t (get_or r k 0))
       → (between : List ℕ) × Unordered from to fits (Out t) a between b

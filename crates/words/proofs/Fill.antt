@@ -4,7 +4,7 @@ use mathlib.Core.Bool.{Bool, true, false, ◌&&◌}
 use mathlib.Core.List.{List}
 use mathlib.Core.Logic.{◌⊎◌, inl, inr, ⊎_elim, ◌↔◌}
 use mathlib.Core.Path.{◌≡◌, refl, sym, ap, ◌∙◌}
-use Prim.Native.Nat.{ℕ, zero, suc, ◌+◌, ◌<◌}
+use Prim.Native.Nat.{ℕ, zero, suc, ◌+◌, ◌<◌, ◌≤◌}
 use native.Mathlib.Decide.{ℕ_discrete}
 use native.Mathlib.Omega.{arith}
 use lib.Dec.{ltb}
@@ -45,6 +45,38 @@ module _ (test : ℕ → Bool) where
 
   pub gathered_skip : (i w : ℕ) → Gathered i w → test i ≡ false → Gathered (i + 1) w
   gathered_skip i w g e = below_more test (flag w) (flag w) i g (g i ∙ ap (λ (b : Bool). b && test i) (le-ltb i i (omega arith)) ∙ sym e) (λ k n. refl)
+
+-- ---- a set of the numbers below i of which a test said `true`; R i b: of i it said b
+
+module _ (R : ℕ → Bool → Type 0) where
+  pub record Tested (i w : ℕ) : Type 0 where
+    pub among : (k : ℕ) → k < i → R k (flag w k)
+    pub past : (k : ℕ) → i ≤ k → flag w k ≡ false
+
+  pub tested_none : (w : ℕ) → w ≡ 0 → Tested 0 w
+  tested_none w e = record { among = λ k h. absurd (omega (arith, h)); past = λ k h. rw e (flag_zero k) }
+
+  pub tested_put : (i w more : ℕ) → Tested i w → more ≡ put w i → R i true → Tested (i + 1) more
+  tested_put i w more t e r = record {
+    among = λ k h. go k h (ℕ_discrete k i);
+    past = λ k h. rw (e, put_other w i k (λ p. omega (arith, p, h))) (t.past k (omega (arith, h)));
+  }
+    where
+      go : (k : ℕ) → k < i + 1 → Dec (k ≡ i) → R k (flag more k)
+      go k h (yes p) = rw (p, e, put_same w i) r
+      go k h (no n) = rw (e, put_other w i k n) (t.among k (omega (arith, h, n)))
+
+  pub tested_skip : (i w more : ℕ) → Tested i w → more ≡ w → R i false → Tested (i + 1) more
+  tested_skip i w more t e r = record { among = λ k h. go k h (ℕ_discrete k i); past = λ k h. rw e (t.past k (omega (arith, h))) }
+    where
+      go : (k : ℕ) → k < i + 1 → Dec (k ≡ i) → R k (flag more k)
+      go k h (yes p) = rw (p, e, t.past i (omega arith)) r
+      go k h (no n) = rw e (t.among k (omega (arith, h, n)))
+
+-- a test that computes, on the first i numbers
+pub tested_is : (test : ℕ → Bool) (i w : ℕ) → ((k : ℕ) → k < i → flag w k ≡ test k) → ((k : ℕ) → i ≤ k → flag w k ≡ false) → (k : ℕ) → flag w k ≡ (ltb k i && test k)
+tested_is test i w among past k =
+    ⊎_elim (λ h. among k h ∙ sym (ap (λ (b : Bool). b && test k) (lt-ltb k i h))) (λ h. past k h ∙ sym (ap (λ (b : Bool). b && test k) (le-ltb k i h))) (lt_or_ge k i)
 
 -- ---- a table, a row for each number below i
 

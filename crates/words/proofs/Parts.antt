@@ -1,6 +1,6 @@
 -- A node's row of the rules, made rule by rule from the nodes that a right side matches and those at the node's address, is what the rules say.
 -- Assumes nothing.
-use mathlib.Core.Bool.{Bool, true, false, ◌&&◌, ◌||◌, and-true, and-false, and-or_distrib_left}
+use mathlib.Core.Bool.{Bool, true, false, ◌&&◌, ◌||◌, and-false, and-or_distrib_left}
 use mathlib.Core.List.{List}
 use mathlib.Core.Path.{◌≡◌, refl, sym, ap, ap₂, ◌∙◌}
 use Prim.Native.Nat.{ℕ, ◌+◌, ◌<◌}
@@ -71,17 +71,17 @@ part_fits rule l k false = no_part (want_of rule.left l) rule.right false
 
 -- ---- one rule after the other
 
-module _ (rights : List ℕ) (rules : List Rule) (m : ℕ) (l : Label) (close : ℕ) where
-  pub row_none : (row : ℕ) → row ≡ 0 → RowOf rights rules m l close 0 row
+module _ (rights : List ℕ) (rules : List Rule) (l : Label) (close : ℕ) where
+  pub row_none : (row : ℕ) → row ≡ 0 → RowOf rights rules l close 0 row
   row_none row e q b k r c = rw e (flag_zero q ∙ sym (and-false b))
 
-  pub row_more : (i row right one more : ℕ) → i < m → i < length rules → right ≡ get_or rights i 0
+  pub row_more : (i row right one more : ℕ) → i < length rules → right ≡ get_or rights i 0
       → ((q : ℕ) → flag one q ≡ part (want_of (get_or rules i no_rule).left l) (get_or rules i no_rule).right (flag right q) (flag close q))
       → more ≡ either row one
-      → RowOf rights rules m l close i row → RowOf rights rules m l close (i + 1) more
-  row_more i row right one more h len e o f was q b k r c =
+      → RowOf rights rules l close i row → RowOf rights rules l close (i + 1) more
+  row_more i row right one more len e o f was q b k r c =
       let rule = get_or rules i no_rule in
-      let right' : flag right q ≡ (b && matchb (want_of rule.right k)) = ap (λ (w : ℕ). flag w q) e ∙ r i h in
+      let right' : flag right q ≡ (b && matchb (want_of rule.right k)) = ap (λ (w : ℕ). flag w q) e ∙ r i len in
       let one' : flag one q ≡ (b && fit_of rule l k) = o q ∙ ap₂ (part (want_of rule.left l) rule.right) right' c ∙ part_fits rule l k b in
       let all : ruledb (take (i + 1) rules) l k ≡ (ruledb (take i rules) l k || fit_of rule l k) =
       rw (add-one i) (some_or (λ (x : Rule). fit_of x l k) rules i no_rule len) in
@@ -90,16 +90,13 @@ module _ (rights : List ℕ) (rules : List Rule) (m : ℕ) (l : Label) (close : 
 
 -- ---- the right sides
 
-module _ (nodes : List Node) (n : ℕ) (rules : List Rule) where
-  pub rights_none : (rights : List ℕ) → Rights nodes n rules 0 rights
-  rights_none rights j q h = absurd (omega (arith, h))
-
+module _ (nodes : List Node) (rules : List Rule) where
   pub rights_more : (i w : ℕ) (rights : List ℕ) → i < length rights
-      → ((q : ℕ) → flag w q ≡ (ltb q n && matchb (want_of (get_or rules i no_rule).right (label_at nodes q))))
-      → Rights nodes n rules i rights → Rights nodes n rules (i + 1) (set rights i w)
+      → ((q : ℕ) → flag w q ≡ (ltb q (length nodes) && matchb (want_of (get_or rules i no_rule).right (label_at nodes q))))
+      → Rights nodes rules i rights → Rights nodes rules (i + 1) (set rights i w)
   rights_more i w rights len f was j q h = go (ℕ_discrete j i)
     where
-      go : Dec (j ≡ i) → listed (set rights i w) j q ≡ (ltb q n && matchb (want_of (get_or rules j no_rule).right (label_at nodes q)))
+      go : Dec (j ≡ i) → listed (set rights i w) j q ≡ (ltb q (length nodes) && matchb (want_of (get_or rules j no_rule).right (label_at nodes q)))
       go (yes p) = rw p (ap (λ (x : ℕ). flag x q) (get_or-set_same rights i w 0 len) ∙ f q)
       go (no d) = ap (λ (x : ℕ). flag x q) (get_or-set_other rights i j w 0 d) ∙ was j q (omega arith)
 
@@ -113,11 +110,5 @@ module _ (rule : Rule) (l : Label) (right close : List ℕ) {w : Want} (wants : 
   pub fitted_never : {row : ℕ} → w ≡ Never → row ≡ 0 → Fits row
   fitted_never e z q = rw (z, ← wants, e) (flag_zero q)
 
-  pub fitted_free : w ≡ Free → Fits (whole right)
-  fitted_free e q = rw (← wants, e)
-
   pub fitted_same : {x a row : ℕ} → w ≡ Var x a → namesb rule.right x ≡ true → row ≡ both (whole right) (whole close) → Fits row
   fitted_same e s f q = rw (f, ← wants, e, s) (both-flag (whole right) (whole close) q)
-
-  pub fitted_other : {x a : ℕ} → w ≡ Var x a → namesb rule.right x ≡ false → Fits (whole right)
-  fitted_other e s q = rw (← wants, e, s) (sym (and-true (flag (whole right) q)))

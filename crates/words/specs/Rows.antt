@@ -1,6 +1,6 @@
 -- What a node's row of the rules is made from: for each rule the nodes that its right side matches, and the nodes at the node's address.
 -- Assumes nothing.
-use Rattle.std.specs.Prelude.{Bool, true, false, ◌&&◌, List, ◌≡◌, ℕ, ◌<◌, eqb, ltb, get_or, take}
+use Rattle.std.specs.Prelude.{Bool, true, false, ◌&&◌, List, ◌≡◌, ℕ, ◌<◌, eqb, ltb, get_or, take, length}
 use Rattle.flags.specs.Flag.{flag}
 use Rattle.graph.specs.declared.Label.{Label}
 use Rattle.graph.specs.declared.Label.TheVariants.{Store, Load, Fence}
@@ -49,12 +49,12 @@ abbrev pub no_rule : Rule
 no_rule = record { left = Any; right = Any }
 
 -- `row` has what the first i rules fit with l: of a node labelled k, and of none where b is false
-abbrev pub RowOf : List ℕ → List Rule → ℕ → Label → ℕ → ℕ → ℕ → Type 0
-RowOf rights rules m l close i row = (q : ℕ) (b : Bool) (k : Label)
-    → ((j : ℕ) → j < m → listed rights j q ≡ (b && matchb (want_of (get_or rules j no_rule).right k)))
+abbrev pub RowOf : List ℕ → List Rule → Label → ℕ → ℕ → ℕ → Type 0
+RowOf rights rules l close i row = (q : ℕ) (b : Bool) (k : Label)
+    → ((j : ℕ) → j < length rules → listed rights j q ≡ (b && matchb (want_of (get_or rules j no_rule).right k)))
     → flag close q ≡ (b && nearb l k)
     → flag row q ≡ (b && ruledb (take i rules) l k)
 
 -- for each of the first i rules the nodes that its right side matches
-abbrev pub Rights : List Node → ℕ → List Rule → ℕ → List ℕ → Type 0
-Rights nodes n rules i rights = (j q : ℕ) → j < i → listed rights j q ≡ (ltb q n && matchb (want_of (get_or rules j no_rule).right (label_at nodes q)))
+abbrev pub Rights : List Node → List Rule → ℕ → List ℕ → Type 0
+Rights nodes rules i rights = (j q : ℕ) → j < i → listed rights j q ≡ (ltb q (length nodes) && matchb (want_of (get_or rules j no_rule).right (label_at nodes q)))

@@ -38,10 +38,10 @@ Led edges i p q = (j : ℕ) × (j < i) × (j < length edges) × ((get_or edges j
 abbrev pub label_at : List Node → ℕ → Label
 label_at ns p = (get_or ns p (record { label = Fence })).label
 
--- p and q are among the first n nodes, and some rule fits their labels
-abbrev pub fit_in : List Node → ℕ → List Rule → ℕ → ℕ → Bool
-fit_in ns n rs p q = ltb p n && (ltb q n && ruledb rs (label_at ns p) (label_at ns q))
+-- p and q are nodes, and some rule fits their labels
+abbrev pub fit_in : List Node → List Rule → ℕ → ℕ → Bool
+fit_in ns rs p q = ltb p (length ns) && (ltb q (length ns) && ruledb rs (label_at ns p) (label_at ns q))
 
 -- the table of the rules is filled from a graph by value
 abbrev pub Fitted : Value.Graph → List ℕ → Type 0
-Fitted g fits = (p q : ℕ) → listed fits p q ≡ fit_in g.nodes g.node_count (rules_of g) p q
+Fitted g fits = (p q : ℕ) → listed fits p q ≡ fit_in g.nodes.items (rules_of g) p q

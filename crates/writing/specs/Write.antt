@@ -11,4 +11,4 @@ pub record Written (before after : List ℕ) (at end : ℕ) (xs : List ℕ) : Ty
 
 -- how many bytes its records are, EN included
 abbrev pub size_of : Value.Graph → ℕ
-size_of g = g.node_count * 4 + g.edge_count * 8 + g.rule_count * 6 + g.order_count * 6 + 2
+size_of g = length g.nodes.items * 4 + length g.edges.items * 8 + length g.rules.items * 6 + length g.orders.items * 6 + 2

@@ -1,86 +1,123 @@
-// One record, or a part of one, put into a buffer: each says which bytes, and where the next goes.
-ghost use Rattle.std.specs.Prelude.{◌≡◌, [], ◌∷◌, ◌+◌, ◌≤◌, length};
+// Records put into a buffer: each says which bytes, and where the next goes.
+ghost use mathlib.Core.List.{flat_map};
+ghost use Rattle.std.specs.Prelude.{◌≡◌, [], ◌∷◌, ◌+◌, ◌*◌, ◌≤◌, ℕ, List, length};
+ghost use Rattle.graph.specs.declared.Side.TheVariants.{Is};
 ghost use Rattle.request.specs.File.{two, node_bytes, edge_bytes, side_bytes, rule_bytes, order_bytes};
 ghost use Rattle.writing.specs.Write.{Written};
 
-use graph::{Edge, Label, Order, Rule, Side};
+use graph::{Edge, Label, Node, Order, Rule, Side};
+use request::Kind;
 
-pub fn put_two(out: &mut [u8], at: usize, a: u8, b: u8) -> usize
-    requires { at + 2 ≤ length out.old }
-    ensures value { result ≡ at + 2 }
-    ensures written { Written out.old out.new at result (a ∷ b ∷ []) }
+// The bytes, from an offset on.
+pub fn put(out: &mut [u8], at: usize, bytes: &[u8]) -> usize
+    requires { at + length bytes.now ≤ length out.old }
+    ensures end { result ≡ at + length bytes.now }
+    ensures written { Written out.old out.new at result bytes.now }
 {
-    out[at] = a;
-    out[at + 1] = b;
-    at + 2
+    let end = at + bytes.len();
+    out[at..end].copy_from_slice(bytes);
+    end
 }
 
-// The low byte first.
-fn put_word(out: &mut [u8], at: usize, v: u16) -> usize
-    requires { at + 2 ≤ length out.old }
-    ensures value { result ≡ at + 2 }
-    ensures written { Written out.old out.new at result (two v) }
+// A number's two bytes, the low one first.
+#[tactic(auto, using(crate::proofs::Writing::low_bytes))]
+fn low_first(n: u16) -> [u8; 2]
+    ensures { result ≡ two n }
 {
-    put_two(out, at, (v % 256) as u8, (v / 256) as u8)
+    n.to_le_bytes()
 }
 
-pub fn put_node(out: &mut [u8], at: usize, l: Label) -> usize
-    requires { at + 4 ≤ length out.old }
-    ensures value { result ≡ at + 4 }
-    ensures written { Written out.old out.new at result (node_bytes l) }
+// What stands in a file as a record.
+pub trait AsBytes {
+    ghost width: { ℕ };
+
+    ghost bytes: { Self → List ℕ };
+
+    fn put_at(&self, out: &mut [u8], at: usize) -> usize
+        requires { at + width ≤ length out.old }
+        ensures end { result ≡ at + width }
+        ensures written { Written out.old out.new at result (bytes self.now) };
+}
+
+// A label's kind, as files number them, and its address.
+fn coded(label: Label) -> [u8; 2]
+    ensures node { node_bytes label ≡ 78 ∷ 68 ∷ result }
+    ensures side { side_bytes (Is label) ≡ result }
 {
-    let a = put_two(out, at, b'N', b'D');
-    match l {
-        Label::Store(x) => put_two(out, a, 0, x),
-        Label::Load(x) => put_two(out, a, 1, x),
-        Label::Fence => put_two(out, a, 2, 0),
+    match label {
+        Label::Store(x) => [Kind::Store.code(), x],
+        Label::Load(x) => [Kind::Load.code(), x],
+        Label::Fence => [Kind::Fence.code(), 0],
     }
 }
 
-pub fn put_edge(out: &mut [u8], at: usize, e: Edge) -> usize
-    requires { at + 8 ≤ length out.old }
-    ensures value { result ≡ at + 8 }
-    ensures written { Written out.old out.new at result (edge_bytes e) }
+// A side's kind and its variable.
+fn coded_side(side: Side) -> [u8; 2]
+    ensures { side_bytes side ≡ result }
 {
-    let a = put_two(out, at, b'E', b'D');
-    let b = put_word(out, a, e.from);
-    let c = put_word(out, b, e.to);
-    put_word(out, c, e.weight)
-}
-
-fn put_side(out: &mut [u8], at: usize, s: Side) -> usize
-    requires { at + 2 ≤ length out.old }
-    ensures value { result ≡ at + 2 }
-    ensures written { Written out.old out.new at result (side_bytes s) }
-{
-    match s {
-        Side::Any => put_two(out, at, 3, 0),
-        Side::Is(l) => match l {
-            Label::Store(x) => put_two(out, at, 0, x),
-            Label::Load(x) => put_two(out, at, 1, x),
-            Label::Fence => put_two(out, at, 2, 0),
-        },
+    match side {
+        Side::Any => [Kind::Any.code(), 0],
+        Side::Is(label) => coded(label),
     }
 }
 
-pub fn put_rule(out: &mut [u8], at: usize, r: Rule) -> usize
-    requires { at + 6 ≤ length out.old }
-    ensures value { result ≡ at + 6 }
-    ensures written { Written out.old out.new at result (rule_bytes r) }
-{
-    let left = r.left;
-    let right = r.right;
-    let a = put_two(out, at, b'R', b'U');
-    let b = put_side(out, a, left);
-    put_side(out, b, right)
+impl AsBytes for Node {
+    ghost width = { 4 };
+
+    ghost bytes = { λ n. node_bytes n.label };
+
+    fn put_at(&self, out: &mut [u8], at: usize) -> usize {
+        let [kind, address] = coded(self.label);
+        put(out, at, &[b'N', b'D', kind, address])
+    }
 }
 
-pub fn put_order(out: &mut [u8], at: usize, o: Order) -> usize
-    requires { at + 6 ≤ length out.old }
-    ensures value { result ≡ at + 6 }
-    ensures written { Written out.old out.new at result (order_bytes o) }
+impl AsBytes for Edge {
+    ghost width = { 8 };
+
+    ghost bytes = { edge_bytes };
+
+    fn put_at(&self, out: &mut [u8], at: usize) -> usize {
+        let [a, b] = low_first(self.from);
+        let [c, d] = low_first(self.to);
+        let [e, f] = low_first(self.weight);
+        put(out, at, &[b'E', b'D', a, b, c, d, e, f])
+    }
+}
+
+impl AsBytes for Rule {
+    ghost width = { 6 };
+
+    ghost bytes = { rule_bytes };
+
+    fn put_at(&self, out: &mut [u8], at: usize) -> usize {
+        let [a, b] = coded_side(self.left);
+        let [c, d] = coded_side(self.right);
+        put(out, at, &[b'R', b'U', a, b, c, d])
+    }
+}
+
+impl AsBytes for Order {
+    ghost width = { 6 };
+
+    ghost bytes = { order_bytes };
+
+    fn put_at(&self, out: &mut [u8], at: usize) -> usize {
+        let [a, b] = low_first(self.first);
+        let [c, d] = low_first(self.second);
+        put(out, at, &[b'O', b'R', a, b, c, d])
+    }
+}
+
+// The records one after the other.
+pub fn put_all<R: AsBytes>(out: &mut [u8], at: usize, records: &[R]) -> usize
+    requires { at + length records.now * R.width ≤ length out.old }
+    ensures end { result ≡ at + length records.now * R.width }
+    ensures written { Written out.old out.new at result (flat_map R.bytes records.now) }
 {
-    let a = put_two(out, at, b'O', b'R');
-    let b = put_word(out, a, o.first);
-    put_word(out, b, o.second)
+    let mut next = at;
+    for record in records {
+        next = record.put_at(out, next);
+    }
+    next
 }

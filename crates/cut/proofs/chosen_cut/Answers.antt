@@ -1,54 +1,55 @@
--- `cut::chosen_cut` meets its contract: the open orders are found, the edges copied, the pairs gathered, and the search's answer is the chosen cut.
+-- `cut::chosen_cut` meets its contract: the edges are linked, the open orders gathered, and the search's answer is the chosen cut.
 -- Assumes nothing.
-use Rattle.std.proofs.Common.{arith}
-use Rattle.route.proofs.Ways.{net_ends}
+use Rattle.std.proofs.Common.{arith, length, ap}
+use Rattle.std.specs.List.Sorted.{IsPermutation}
 use Rattle.sets.specs.Whole.{rows}
 use Rattle.words.proofs.Made.{ruling}
-use Rattle.cut.proofs.Gathered.{gathered_paired}
-use Rattle.cut.proofs.Given.{given_differ, given_net, given_known, given_chosen}
+use Rattle.cut.specs.Given.{open_of}
+use Rattle.cut.proofs.Given.{known, given_starts, given_ends, given_net, given_differ, given_posed, given_chosen}
 use Rattle.cut.proofs.chosen_cut.Goals as goal
 
-pub link-ends-requires : goal.link-ends-requires
-link-ends-requires c =
-    let p = c.requires in let e = c.copied-l.ensures in
-    net_ends _ _ (given_net p.0 p.2 c.gather-pairs.ensures.0 (gathered_paired c.gather-pairs.ensures.1) p.1 e.0 e.1)
+pub by_ends-ins-requires : goal.by_ends-ins-requires
+by_ends-ins-requires c =
+    let edges = c.as_slice-edges.ensures in
+    (edges.fits, rw edges.value (given_ends (known c.args.g.now c.deref.ensures edges.value edges.fits c.requires)))
 
-pub link-starts-requires : goal.link-starts-requires
-link-starts-requires c =
-    let p = c.requires in let e = c.copied-l.ensures in
-    let net = given_net p.0 p.2 c.gather-pairs.ensures.0 (gathered_paired c.gather-pairs.ensures.1) p.1 e.0 e.1 in
-    (net.few, net.tail)
+pub by_starts-outs-requires : goal.by_starts-outs-requires
+by_starts-outs-requires c =
+    let edges = c.as_slice-edges.ensures in
+    (edges.fits, rw edges.value (given_starts (known c.args.g.now c.deref.ensures edges.value edges.fits c.requires)))
 
-pub near_first-p-requires-clause-net : goal.near_first-p-requires-clause-net
-near_first-p-requires-clause-net c =
-    let p = c.requires in let e = c.copied-l.ensures in
-    (given_net p.0 p.2 c.gather-pairs.ensures.0 (gathered_paired c.gather-pairs.ensures.1) p.1 e.0 e.1, c.link-ends.ensures.1)
+pub near_first-pairs-requires-clause-net : goal.near_first-pairs-requires-clause-net
+near_first-pairs-requires-clause-net c =
+    let edges = c.as_slice-edges.ensures in
+    (rw edges.value (given_net (known c.args.g.now c.deref.ensures edges.value edges.fits c.requires)), c.by_ends-ins.ensures)
 
-pub near_first-p-requires-clause-ends : goal.near_first-p-requires-clause-ends
-near_first-p-requires-clause-ends c =
-    let p = c.requires in let y = gathered_paired c.gather-pairs.ensures.1 in
-    (omega (arith, y.few, p.0.orders), given_differ p.0 p.2 c.gather-pairs.ensures.0 y)
+pub near_first-pairs-requires-clause-ends : goal.near_first-pairs-requires-clause-ends
+near_first-pairs-requires-clause-ends c =
+    let edges = c.as_slice-edges.ensures in
+    rw (c.deref-4.ensures.0, c.gather-open_orders.ensures, c.deref-3.ensures.0)
+    (given_differ (known c.args.g.now c.deref.ensures edges.value edges.fits c.requires) c.open_orders-open.result)
 
-pub slice_bounds-best-end-4 : goal.slice_bounds-best-end-4
-slice_bounds-best-end-4 c =
-    let paired = c.near_first-p.ensures _ _ _ (gathered_paired c.gather-pairs.ensures.1) in
-    omega (arith, paired.few, paired.sizes.0, c.requires.0.orders)
+pub invariant_of-net : goal.invariant_of-net
+invariant_of-net c =
+    let edges = c.as_slice-edges.ensures in
+    record { net = (rw edges.value (given_net (known c.args.g.now c.deref.ensures edges.value edges.fits c.requires)), c.by_ends-ins.ensures, c.by_starts-outs.ensures) }
 
-pub slice_bounds-best-end-5 : goal.slice_bounds-best-end-5
-slice_bounds-best-end-5 c =
-    let paired = c.near_first-p.ensures _ _ _ (gathered_paired c.gather-pairs.ensures.1) in
-    omega (arith, paired.few, paired.sizes.1, c.requires.0.orders)
-
-pub best-requires : goal.best-requires
-best-requires c =
-    let p = c.requires in
-    let paired = c.near_first-p.ensures _ _ _ (gathered_paired c.gather-pairs.ensures.1) in
-    given_known p.0 p.2 c.gather-pairs.ensures.0 paired p.1 c.copied-l.ensures.0 c.copied-l.ensures.1
-    c.link-ends.ensures.1 c.link-starts.ensures.1
+pub search-requires : goal.search-requires
+search-requires c =
+    let edges = c.as_slice-edges.ensures in
+    let moved : IsPermutation (open_of c.args.g.now.orders.items c.open_orders-open.result) c.near_first-pairs.result.items =
+    rw (← c.deref-3.ensures.0, ← c.gather-open_orders.ensures, ← c.deref-4.ensures.0) c.near_first-pairs.ensures in
+    rw (c.deref-5.ensures.0, edges.value)
+    (given_posed (known c.args.g.now c.deref.ensures edges.value edges.fits c.requires) c.open_orders-open.result c.near_first-pairs.result.items moved
+    (omega (arith, c.deref-5.ensures.1, ap length c.deref-5.ensures.0)) c.by_ends-ins.result.entries c.by_starts-outs.result.entries
+    (rw (← edges.value) c.by_ends-ins.ensures) (rw (← edges.value) c.by_starts-outs.ensures))
 
 pub returns : goal.returns
 returns c =
-    let p = c.requires in let fits = rows c.fits_of-fits.result in
-    let paired = c.near_first-p.ensures _ _ _ (gathered_paired c.gather-pairs.ensures.1) in
-    given_chosen p.0 p.2 c.gather-pairs.ensures.0 paired p.1 c.copied-l.ensures.0 c.copied-l.ensures.1 fits
-    (ruling c.args.g fits c.fits_of-fits.ensures) c.open_orders-open.ensures _ c.best.ensures.0 c.best.ensures.1
+    let edges = c.as_slice-edges.ensures in
+    let moved : IsPermutation (open_of c.args.g.now.orders.items c.open_orders-open.result) c.near_first-pairs.result.items =
+    rw (← c.deref-3.ensures.0, ← c.gather-open_orders.ensures, ← c.deref-4.ensures.0) c.near_first-pairs.ensures in
+    given_chosen (known c.args.g.now c.deref.ensures edges.value edges.fits c.requires) c.open_orders-open.result c.near_first-pairs.result.items moved
+    (rows c.fits_of-fits.result) (ruling c.args.g.now (rows c.fits_of-fits.result)
+    (λ p q. rw (← c.deref.ensures.0, ← c.deref-2.ensures.0) (c.fits_of-fits.ensures p q))) c.open_orders-open.ensures c.search.result
+    (rw (← edges.value) c.search.ensures.made) (rw (← edges.value, ← c.deref-5.ensures.0) c.search.ensures.least)

@@ -1,9 +1,6 @@
--- `fence::fence_ask` meets its contract: a file that is not accepted is refused; else its graph is asked.
-use Rattle.outcome.proofs.Refusals.{ask_refused}
+-- `fence::fence_ask` meets its contract: a refusal is told by its numbers.
+use Rattle.fence.proofs.Told.{as_shown}
 use Rattle.fence.proofs.fence_ask.Goals as goal
 
-pub returns-in-Refused : goal.returns-in-Refused
-returns-in-Refused c = ask_refused _ _ _ _ _ c.in-Refused.is c.read.ensures _ _ c.unshown.ensures
-
-pub returns-in-Whole : goal.returns-in-Whole
-returns-in-Whole c = c.ask.ensures _ c.decode.ensures.0
+pub returns : goal.returns
+returns c = rw (as_shown c.ask.result c.unwrap_or_else.result c.unwrap_or_else.ensures) c.ask.ensures

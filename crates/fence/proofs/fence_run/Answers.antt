@@ -1,9 +1,6 @@
--- `fence::fence_run` meets its contract: a file that is not accepted is refused; else its graph is run.
-use Rattle.outcome.proofs.Refusals.{run_refused}
+-- `fence::fence_run` meets its contract: a refusal is told by its numbers.
+use Rattle.fence.proofs.Told.{as_report}
 use Rattle.fence.proofs.fence_run.Goals as goal
 
-pub returns-in-Refused : goal.returns-in-Refused
-returns-in-Refused c = run_refused _ _ _ _ _ c.in-Refused.is c.read.ensures _ c.refused.ensures
-
-pub returns-in-Whole : goal.returns-in-Whole
-returns-in-Whole c = c.run.ensures _ c.decode.ensures.0
+pub returns : goal.returns
+returns c = rw (as_report c.run.result c.unwrap_or_else.result c.unwrap_or_else.ensures) c.run.ensures

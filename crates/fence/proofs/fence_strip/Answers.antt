@@ -1,9 +1,6 @@
--- `fence::fence_strip` meets its contract: a file that is not accepted is refused; else its graph is stripped.
-use Rattle.outcome.proofs.Refusals.{strip_refused}
+-- `fence::fence_strip` meets its contract: a refusal is told by its numbers.
+use Rattle.fence.proofs.Told.{as_report}
 use Rattle.fence.proofs.fence_strip.Goals as goal
 
-pub returns-in-Refused : goal.returns-in-Refused
-returns-in-Refused c = strip_refused _ _ _ _ _ c.in-Refused.is c.read.ensures _ _ c.refused.ensures
-
-pub returns-in-Whole : goal.returns-in-Whole
-returns-in-Whole c = c.strip.ensures _ c.decode.ensures.0
+pub returns : goal.returns
+returns c = rw (as_report c.strip.result c.unwrap_or_else.result c.unwrap_or_else.ensures) c.strip.ensures

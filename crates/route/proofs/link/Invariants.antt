@@ -1,12 +1,10 @@
-use Prim.Native.Nat.{◌+◌, ◌≤◌}
-use mathlib.Core.Path.{◌≡◌}
-use lib.ListN.{length}
-use Rattle.graph.specs.Limits.{most_nodes, most_edges}
-use Rattle.route.specs.Way.{EdgeLists}
+use Rattle.std.proofs.Common.{◌≡◌, get_or}
+use Rattle.std.specs.Fn.{FnReturnsAt}
+use Rattle.graph.specs.Graph.{no_edge}
+use Rattle.route.proofs.Backwards.{Back}
 use Rattle.route.proofs.link.Given as goal
 
 abbrev pub invariant-loop-e : goal.invariant-loop-e
-invariant-loop-e l = (l.e ≤ length l.to) × (length l.l.entries ≡ most_nodes + most_edges) × EdgeLists l.to l.l.entries l.e
-
-abbrev pub decreases-loop-e : goal.decreases-loop-e
-decreases-loop-e l = l.e
+invariant-loop-e g l =
+    (goal.iterator-loop-e g).can_next l.e-iterator × (goal.iterator-loop-e g).is_finite l.e-iterator × (l.e-iterator.iter.count ≡ 0)
+    × Back l.edges (λ e v. FnReturnsAt g.F.Fn l.at (get_or l.edges e no_edge) v) l.e-iterator.iter.iter.rest.now l.l.entries

@@ -1,7 +1,9 @@
 -- `sets::either` meets its contract: word by word.
-use borrow.Author.Rules.{rules}
-use Rattle.sets.proofs.Words.{made_all, either-words}
+use Rattle.std.proofs.Common.{rules}
+use Rattle.sets.specs.Whole.{words}
+use Rattle.sets.proofs.Words.{all_words, either_wordwise}
 use Rattle.sets.proofs.either.Goals as goal
 
 pub returns : goal.returns
-returns c = made_all either-words c.loop-i.invariant c.loop-i-test.false (search rules) (search rules) (λ j. search rules) (λ j. search rules)
+returns c =
+    all_words either_wordwise _ _ _ words (search rules) (search rules) c.by_words.ensures.0 (λ i. search rules) (λ i. search rules) c.by_words.ensures.1

@@ -1,7 +1,9 @@
 -- `sets::without` meets its contract: word by word.
-use borrow.Author.Rules.{rules}
-use Rattle.sets.proofs.Words.{made_all, less-words}
+use Rattle.std.proofs.Common.{rules}
+use Rattle.sets.specs.Whole.{words}
+use Rattle.sets.proofs.Words.{all_words, less_wordwise}
 use Rattle.sets.proofs.without.Goals as goal
 
 pub returns : goal.returns
-returns c = made_all less-words c.loop-i.invariant c.loop-i-test.false (search rules) (search rules) (λ j. search rules) (λ j. search rules)
+returns c =
+    all_words less_wordwise _ _ _ words (search rules) (search rules) c.by_words.ensures.0 (λ i. search rules) (λ i. search rules) c.by_words.ensures.1

@@ -3,8 +3,8 @@ use Rattle.std.proofs.Common.{sym, ◌∙◌}
 use Rattle.words.proofs.Parts.{fitted_never, fitted_same}
 use Rattle.words.proofs.fitted.Goals as goal
 
-pub returns-then-names : goal.returns-then-names
-returns-then-names c =
+pub returns-in-Var : goal.returns-in-Var
+returns-in-Var c =
     let named = sym c.names.ensures ∙ c.if-names.true in
     fitted_same c.args.rule c.args.l c.args.right c.args.close c.wants.ensures c.in-Var.is named c.both.ensures
 

@@ -1,10 +1,9 @@
 -- `lightest::Cut::flags` meets its contract: flag by flag.
-use Rattle.std.proofs.Common.{arith}
+use Rattle.std.proofs.Common.{rules, tests}
 use Rattle.graph.specs.Limits.{most_edges}
-use Rattle.lightest.proofs.Flags.{flags_same}
+use Rattle.sets.specs.Whole.{whole}
+use Rattle.lightest.proofs.Flags.{flags_made}
 use Rattle.lightest.proofs.Cut.flags.Goals as goal
 
 pub returns : goal.returns
-returns c =
-    let l = c.loop-e in
-    flags_same most_edges _ l.flags l.invariant.1 (λ j h. l.invariant.2 j (omega (arith, h, c.loop-e-test.false)))
+returns c = flags_made (whole c.args.self.chosen) (λ i y q k. search (rules, tests)) most_edges _ c.from_fn.ensures.items

@@ -1,10 +1,10 @@
 use Prim.Native.Nat.{◌-◌}
-use lib.ListN.{length}
+use lib.ListN.{length, get_or}
 use Rattle.request.proofs.Recorded.{Counting}
 use Rattle.request.proofs.layout.in_row.Given as goal
 
-abbrev pub invariant-loop-p : goal.invariant-loop-p
-invariant-loop-p l = Counting l.a l.b l.size l.file l.at l.k l.p
+abbrev pub invariant-loop-letters : goal.invariant-loop-letters
+invariant-loop-letters l = Counting (get_or l.letters 0 0) (get_or l.letters 1 0) l.size l.file l.at l.k l.p
 
-abbrev pub decreases-loop-p : goal.decreases-loop-p
-decreases-loop-p l = length l.file - l.p
+abbrev pub decreases-loop-letters : goal.decreases-loop-letters
+decreases-loop-letters l = length l.file - l.p
