@@ -27,6 +27,8 @@ pub fn fence_strip(file: &[u8], count: u64, out: &mut [u8]) -> Report
     strip(file, count, out).unwrap_or_else(Report::from)
 }
 
+// One for each, as they hand on different things: one function for all would take the step as a closure, and be no shorter.
+
 fn run(file: &[u8], out: &mut [u8]) -> Result<Report, Refusal>
     ensures { RunOutcome file.now out.old (reported result) out.new }
 {

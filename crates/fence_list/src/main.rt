@@ -48,6 +48,7 @@ fn list(rt: &impl Print, file: &[u8]) -> io::Result<()> {
         "{} {} {} {} {}",
         r.answer, r.place, r.fences, r.weight, r.length
     )?;
+    // by `as`: an index has 64 bits, and nothing is cut off
     if let Some(whole) = out.get(..r.length as usize) {
         written(rt, whole, r.fences as usize)?;
     }

@@ -6,6 +6,8 @@ ghost use Rattle.outcome.specs.Outcome.{refusal, unshown};
 
 use request::Refusal;
 
+// Where a number is made of an index, here and in the operations, it is by `as`: both have 64 bits, and there is no `From` between them.
+
 // What run and strip return. This is what C sees, so the answer is a number: 0 is none.
 #[repr(C)]
 #[derive(Clone, Copy)]

@@ -45,6 +45,7 @@ fn bad_node(file: &[u8], at: usize) -> bool
     }
 }
 
+// The left side and the right by themselves, as the definition has them: they differ in which variables are allowed.
 #[tactic(auto, unfolding(crate::specs::Tables::bad_left))]
 fn bad_left(kind: Option<Kind>, variable: u8) -> bool
     ensures { (byte : ℕ) → KindOf byte kind → result ≡ bad_left byte variable }

@@ -67,7 +67,7 @@ impl Counts {
         }
     }
 
-    // The number of a mark's first record, over the whole file.
+    // The number of a mark's first record, over the whole file. Apart from `start_of`, which counts bytes: one function for both is no plainer.
     pub(crate) fn number_of(self, mark: Mark) -> usize
         requires { self.nodes + self.edges + self.rules < 9223372036854775808 }
         ensures { result ≡ numbered self mark }

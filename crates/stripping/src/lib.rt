@@ -21,6 +21,7 @@ pub fn strip(g: Graph, count: u64, out: &mut [u8]) -> Result<Report, Refusal>
     if (nodes as u64) < count {
         return Err(Answer::NotLoose.at(0));
     }
+    // by `as`: an index has 64 bits, and nothing is cut off
     let c = count as usize;
     if names_above(&g.orders, c) {
         return Err(Answer::NotLoose.at(0));
