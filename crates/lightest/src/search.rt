@@ -16,9 +16,9 @@ const ABOVE: u32 = Graph::EDGES as u32 * 65535 + 1;
 
 // What a level of the search keeps of a bound: the edges of the route to branch on, none where the chosen ones are a cut, and the sum.
 #[derive(Clone, Copy)]
-struct Level {
-    route: Option<WideSet>,
-    sum: u32,
+pub struct Level {
+    pub route: Option<WideSet>,
+    pub sum: u32,
 }
 
 // The edges of a route, as a set.
