@@ -7,7 +7,7 @@ use short_list::ShortList;
 
 pub type Edges = ShortList<Edge, { Graph::EDGES }>;
 
-// A list of its own, so that it is the search's alone, whatever else is done with the graph.
+// A list of its own: here the weights are read, and so a mistake in them can be planted here.
 pub fn copied(edges: &[Edge]) -> Edges
     requires { length edges.now ≤ most_edges }
     ensures { result.items ≡ edges.now }
