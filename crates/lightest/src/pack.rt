@@ -21,8 +21,9 @@ pub struct Packing {
     pub sum: u32,
 }
 
-// A function by itself: that the number is below 2^16 is known of what a call gives, and not of a field in a loop over edges.
-fn weight_of(edge: &Edge) -> u16
+// What an edge weighs: all that reads a weight reads it here. By itself too as that the number is below 2^16 is known of what a call gives, and
+// not of a field in a loop over edges.
+pub fn weight_of(edge: &Edge) -> u16
     ensures { result ≡ edge.now.weight }
 {
     edge.weight
