@@ -11,7 +11,7 @@ ghost use Rattle.words.specs.Words.{listed, Led, label_at, fit_in};
 ghost use Rattle.words.specs.Rows.{matchb, nearb, namesb, part, RowOf, Rights};
 
 use graph::{Edge, Graph, Label, Node, Rule, Side, Want};
-use sets::{Set, both, either, none, put_in, with};
+use sets::{Set, both, either, none, put_in};
 
 // A set for each node.
 pub type Sets = [Set; Graph::NODES];
@@ -121,8 +121,7 @@ pub fn succ_of(edges: &[Edge]) -> Sets
     for edge in edges {
         let from = usize::from(edge.from);
         let to = usize::from(edge.to);
-        // by value: a table of which a part is lent would be copied once more when it is returned
-        words[from] = with(words[from], to);
+        put_in(&mut words[from], to);
     }
     words
 }

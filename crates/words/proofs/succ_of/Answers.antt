@@ -21,7 +21,7 @@ loop-edge-preserved c =
     let ends = c.requires.1 i c.loop-edge-test.true in
     let room : from < length (rows words) = rw (rows-length words, c.loop-edge.invariant.0, is-from) ends.0 in (
       length-set words _ _ ∙ c.loop-edge.invariant.0,
-      subst⁻¹ (LedBy (Leads c.args.edges.now) _) (rows-put words from to c.with.result c.with.ensures.0)
+      subst⁻¹ (LedBy (Leads c.args.edges.now) _) (rows-put words from to c.put_in.new.s c.put_in.ensures.0)
           (led_put (Leads c.args.edges.now) i (rows words) from to c.loop-edge.invariant.1 room
           (c.loop-edge-test.true, sym is-from, sym is-to) (λ p q g. (sym g.1 ∙ sym is-from, sym g.2 ∙ sym is-to))),
     )
