@@ -6,7 +6,7 @@ use Prim.Native.Nat.{◌<◌, ◌≤◌, ℕ}
 use lib.ListN.{length}
 use Rattle.std.specs.Prelude.{Option, Some, None}
 use Rattle.std.specs.Option.{UnwrapsOrElse}
-use Rattle.arrayvec.specs.ArrayVec.{ArrayVec}
+use Rattle.short_list.specs.ShortList.{ShortList}
 use Rattle.graph.specs.declared.Order.{Order}
 use Rattle.outcome.specs.Outcome.{AskOutcome, over}
 use Rattle.graph.specs.Graph.{order}
@@ -20,9 +20,9 @@ use Rattle.request.specs.Value.{request_in}
 use Rattle.request.specs.Proper.{Reads}
 
 -- where no route is shown there are no nodes
-pub shown_nodes : (way : Option (ArrayVec ℕ)) (route : ArrayVec ℕ) → UnwrapsOrElse way (λ (v : ArrayVec ℕ). v.items ≡ []) route → route.items ≡ shown way
+pub shown_nodes : (way : Option (ShortList ℕ)) (route : ShortList ℕ) → UnwrapsOrElse way (λ (v : ShortList ℕ). v.items ≡ []) route → route.items ≡ shown way
 shown_nodes None route e = e
-shown_nodes (Some way) route e = ap (λ (v : ArrayVec ℕ). v.items) e
+shown_nodes (Some way) route e = ap (λ (v : ShortList ℕ). v.items) e
 
 pub route_shown : (g : Value.Graph) (k : ℕ) → k < length (orders_of g) → {o : List ℕ} → most_nodes ≤ length o
     → {succ fits : List ℕ} → WordsOf (graph_of g) (rules_of g) [] succ fits → (asked : Order) → asked ≡ order (orders_of g) k

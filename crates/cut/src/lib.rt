@@ -11,12 +11,14 @@ ghost use Rattle.route.specs.Way.{starts, ends, weights};
 ghost use Rattle.sets.specs.Whole.{rows};
 ghost use Rattle.cut.specs.Chosen.{Chosen};
 
+use crate::lists::copied;
 use graph::{Graph, Order};
 use lightest::{Cut, Problem};
 use route::Links;
 use unordered::Linked;
 use words::Sets;
 
+mod lists;
 mod near;
 
 // The chosen cut of a graph. One table is lent to the walk first and then to the search, which both write before they read.
@@ -27,7 +29,8 @@ pub fn chosen_cut(g: &Graph) -> Cut
     let fits = words::fits_of(&g.nodes, &g.rules);
     let mut lent = [[0u64; sets::WORDS]; Graph::NODES];
     let open = walk::open_orders(g, &fits, &mut lent);
-    let edges = g.edges.as_slice();
+    let list = copied(&g.edges);
+    let edges = list.as_slice();
     let ins = Links::by_ends(edges);
     let outs = Links::by_starts(edges);
     let open_orders = near::gather(&g.orders, &open);

@@ -5,3 +5,4 @@ pub mod Placed
 pub mod Tops
 pub mod Named
 pub mod Going
+pub mod Along

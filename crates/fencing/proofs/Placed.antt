@@ -3,9 +3,8 @@
 use mathlib.Core.List.{List, [], ◌++◌, ◌∷◌}
 use mathlib.Core.Path.{◌∙◌, ◌≡◌, ap, sym}
 use Prim.Native.Nat.{◌-◌, ◌<◌, ℕ}
-use lib.ListN.{drop, get_or, length, length-set, set, take}
-use lib.Seq.{get_or-take, take_at}
-use Rattle.std.specs.List.{refill}
+use lib.ListN.{get_or, length, set, take}
+use lib.Seq.{get_or-take}
 use Rattle.graph.specs.declared.Edge.{Edge}
 use Rattle.graph.specs.declared.Label.TheVariants.{Fence}
 use Rattle.graph.specs.declared.Node.{Node}
@@ -14,11 +13,6 @@ use Rattle.graph.specs.Strip.{joined}
 use Rattle.graph.specs.Value.{labels}
 use Rattle.graph.specs.Written.{fenced}
 use Rattle.graph.proofs.Value.{labels_append, labels_length, labels_take}
-
-module _ {A : Type 0} where
-  -- a list written back over the one that it came from
-  pub refill_set : (xs : List A) (i : ℕ) (y : A) → refill (length xs) xs (set xs i y) ≡ set xs i y
-  refill_set xs i y = take_at (set xs i y) (drop (length (set xs i y)) xs) (length xs) (length-set xs i y)
 
 -- the edge e, ending at v, and going on from v
 abbrev pub up_to : Edge → ℕ → Edge

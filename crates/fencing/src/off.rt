@@ -10,7 +10,7 @@ ghost use Rattle.fencing.specs.Left.{Top, Off};
 use graph::{Edge, Graph, Label, Order};
 
 // What is left of a graph, and the weights of the pairs rejoined.
-#[derive(Drop)]
+#[derive(Clone, Copy)]
 pub struct Left {
     pub graph: Graph,
     pub weight: u64,
@@ -87,8 +87,15 @@ fn rejoin(g: &mut Graph, i: usize) -> u16
     let last = g.edges[g.edges.len() - 1];
     g.nodes.pop();
     g.edges.pop();
-    g.edges[i].to = last.to;
-    g.edges[i].weight
+    let into = g.edges[i];
+    g.edges.set(
+        i,
+        Edge {
+            to: last.to,
+            ..into
+        },
+    );
+    into.weight
 }
 
 // Takes fences off until c nodes are left; stops with more where the highest node isn't loose.

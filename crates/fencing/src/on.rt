@@ -21,7 +21,7 @@ fn put_fence(g: &mut Graph, i: usize)
     g.nodes.push(Node {
         label: Label::Fence,
     });
-    g.edges[i] = Edge { to: fence, ..cut };
+    g.edges.set(i, Edge { to: fence, ..cut });
     g.edges.push(Edge { from: fence, ..cut });
 }
 

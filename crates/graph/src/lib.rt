@@ -6,7 +6,7 @@ ghost use Rattle.graph.specs.Tests.{want_of, fit_of, ruledb};
 ghost use Rattle.graph.specs.Graph.{no_graph};
 ghost use Rattle.graph.specs.Value.{graph_of, rules_of, orders_of};
 
-use arrayvec::ArrayVec;
+use short_list::ShortList;
 
 // The defaults of these types are blanks: they stand in the unused places of the lists.
 
@@ -52,12 +52,12 @@ pub struct Order {
     pub second: u16,
 }
 
-#[derive(Drop)]
+#[derive(Clone, Copy)]
 pub struct Graph {
-    pub nodes: ArrayVec<Node, { Graph::NODES }>,
-    pub edges: ArrayVec<Edge, { Graph::EDGES }>,
-    pub rules: ArrayVec<Rule, { Graph::RULES }>,
-    pub orders: ArrayVec<Order, { Graph::ORDERS }>,
+    pub nodes: ShortList<Node, { Graph::NODES }>,
+    pub edges: ShortList<Edge, { Graph::EDGES }>,
+    pub rules: ShortList<Rule, { Graph::RULES }>,
+    pub orders: ShortList<Order, { Graph::ORDERS }>,
 }
 
 impl Graph {
@@ -73,10 +73,10 @@ impl Graph {
         ensures { (graph_of result ≡ no_graph) × (rules_of result ≡ []) × (orders_of result ≡ []) }
     {
         Graph {
-            nodes: ArrayVec::new(),
-            edges: ArrayVec::new(),
-            rules: ArrayVec::new(),
-            orders: ArrayVec::new(),
+            nodes: ShortList::new(),
+            edges: ShortList::new(),
+            rules: ShortList::new(),
+            orders: ShortList::new(),
         }
     }
 }

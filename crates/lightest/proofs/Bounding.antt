@@ -8,7 +8,7 @@ use Prim.Native.Nat.{ℕ, zero, suc, ◌+◌, ◌<◌, ◌≤◌}
 use native.Mathlib.Omega.{arith}
 use lib.ListN.{length, get_or}
 use borrow.Author.Count.{below_more}
-use Rattle.arrayvec.specs.ArrayVec.{ArrayVec}
+use Rattle.short_list.specs.ShortList.{ShortList}
 use Rattle.graph.specs.Graph.{no_order}
 use Rattle.graph.specs.declared.Order.{Order}
 use Rattle.lightest.specs.Apart.{Apart, Posed, firsts, seconds}
@@ -94,7 +94,7 @@ module _ {from to ins on fits ws us vs : List ℕ} (kn : Posed from to ins on ws
     }
 
     -- there is a route to go on with, or every pair was looked at
-    pub bounding_end : {left : List ℕ} {first : ArrayVec ℕ} {sum i : ℕ} → Light ws → Bounding from to fits ws us vs s left first.items sum i
+    pub bounding_end : {left : List ℕ} {first : ShortList ℕ} {sum i : ℕ} → Light ws → Bounding from to fits ws us vs s left first.items sum i
         → (length first.items ≡ 0 → length us ≤ i) → Bounded ws (Apart from to fits us vs) s (record { route = first; left = left; sum = sum })
     bounding_end w f h = record { light = w; fair = f.fair; packed = f.packed; none = λ z k l. (f.none z).1 k (omega (arith, l, h z)); next = f.next }
 

@@ -17,7 +17,7 @@ use Rattle.graph.specs.Value.{rising}
 use Rattle.graph.proofs.Splits.{true_false, bool, lt_or_ge}
 use Rattle.lightest.proofs.Fore.{Agree, agree-more, fore_first}
 use Rattle.lightest.proofs.Grown.{grown, grown_part, grown_heavy}
-use Rattle.lightest.proofs.Weights.{none_has, total_has}
+use Rattle.lightest.proofs.Weights.{none_has, total_has, total-part}
 use Rattle.graph.proofs.Better.{first_refl}
 
 -- below e the two agree, or a has the first edge in which they differ
@@ -67,6 +67,11 @@ module _ {ws : List ℕ} {P : List Bool → Type 0} (few : length ws ≤ most_ed
 
     within : PartOf k.chosen c.chosen
     within = agree-part c.chosen (λ j l. refl)
+
+    pub listed_light : k.weight ≤ c.weight
+    listed_light =
+        let l = y.part.edges.long ∙ sym y.made.edges.long in
+        omega (arith, y.made.sum, y.part.sum, total-part (λ i. get_or ws i 0) 0 k.chosen c.chosen l within)
 
     pub listed_gap : (s : Cut) (left : List ℕ) (sum : ℕ) → s.chosen ≡ replicate most_edges false → Packed ws P s left sum → sum ≤ c.weight
     listed_gap s left sum q pa = omega (arith, y.made.sum, pa c.chosen (branch_all s q c.chosen y.made.edges y.good))

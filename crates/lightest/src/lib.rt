@@ -13,7 +13,7 @@ use std::array;
 use unordered::Linked;
 
 mod pack;
-mod search;
+pub mod search;
 
 pub use search::best;
 

@@ -6,7 +6,6 @@ ghost use Rattle.lightest.specs.Made.{Made, cut_by, edges_of, most_weight};
 ghost use Rattle.lightest.specs.Search.{Bounded, Earlier, Fair, Light, Parted, Reduced, TightestOf, Unspent, costs};
 
 use crate::Problem;
-use arrayvec::ArrayVec;
 use graph::{Edge, Graph};
 use route::EdgeRoute;
 use sets::{WideSet, has};
@@ -15,15 +14,16 @@ use words::Sets;
 
 // A lower bound: routes that must be met, with amounts. The first of them, what is left of each weight, and the sum of the amounts. The route is
 // empty where none was found.
-#[derive(Drop)]
+#[derive(Clone, Copy)]
 pub struct Packing {
     pub route: EdgeRoute,
     pub left: [u16; Graph::EDGES],
     pub sum: u32,
 }
 
-// A function by itself: that the number is below 2^16 is known of what a call gives, and not of a field in a loop over edges.
-fn weight_of(edge: &Edge) -> u16
+// What an edge weighs: all that reads a weight reads it here. By itself too as that the number is below 2^16 is known of what a call gives, and
+// not of a field in a loop over edges.
+pub fn weight_of(edge: &Edge) -> u16
     ensures { result ≡ edge.now.weight }
 {
     edge.weight
@@ -77,8 +77,7 @@ fn keep_first(first: &mut EdgeRoute, way: &EdgeRoute)
     ensures { Earlier first.old.items way.now.items first.new.items }
 {
     if first.is_empty() {
-        // It fits: the two have one capacity.
-        let _ = first.try_extend_from_slice(way);
+        *first = *way;
     }
 }
 
@@ -89,11 +88,11 @@ pub fn bound(problem: &Problem<'_>, chosen: &WideSet, allowance: u32, kept: &mut
     ensures { Bounded (costs problem.now) (Parted problem.now) (cut_by (costs problem.now) chosen.now) result }
 {
     let mut packing = Packing {
-        route: ArrayVec::new(),
+        route: EdgeRoute::new(),
         left: unspent(problem.net.edges, chosen),
         sum: 0,
     };
-    let mut way = ArrayVec::new();
+    let mut way = EdgeRoute::new();
     for pair in problem.pairs {
         let a = usize::from(pair.first);
         let b = usize::from(pair.second);

@@ -5,7 +5,7 @@ ghost use Rattle.lightest.specs.Made.{Made, cut_at, cut_by, cut_of, edges_of, mo
 ghost use Rattle.lightest.specs.Sets.{Least};
 ghost use Rattle.lightest.specs.Search.{Fair, Levelled, Marks, Parted, Picked, costs};
 
-use crate::pack::{bound, tightest};
+use crate::pack::{bound, tightest, weight_of};
 use crate::{Cut, Problem, heavier_by};
 use graph::Graph;
 use sets::{WideSet, has, none, put_in};
@@ -16,9 +16,9 @@ const ABOVE: u32 = Graph::EDGES as u32 * 65535 + 1;
 
 // What a level of the search keeps of a bound: the edges of the route to branch on, none where the chosen ones are a cut, and the sum.
 #[derive(Clone, Copy)]
-struct Level {
-    route: Option<WideSet>,
-    sum: u32,
+pub struct Level {
+    pub route: Option<WideSet>,
+    pub sum: u32,
 }
 
 // The edges of a route, as a set.
@@ -84,7 +84,7 @@ fn least(
         return cut.weight;
     };
     for (e, edge) in problem.net.edges.iter().enumerate() {
-        let w = u32::from(edge.weight);
+        let w = u32::from(weight_of(edge));
         if has(route, e) && cut.weight + w < found {
             let next = cut.with_edge(e, w);
             let more = found - next.weight;
@@ -111,7 +111,7 @@ fn first_cut(problem: &Problem<'_>, left: &[u16; Graph::EDGES], kept: &mut Sets)
         let Some(e) = tightest(&packing.route, left) else {
             return cut;
         };
-        cut = cut.with_edge(e, u32::from(problem.net.edges[e].weight));
+        cut = cut.with_edge(e, u32::from(weight_of(&problem.net.edges[e])));
     }
 }
 
@@ -129,7 +129,7 @@ pub fn best(problem: &Problem<'_>, kept: &mut Sets) -> Cut
     let slack = weight - packing.sum;
     let mut fixed = empty;
     for (e, edge) in problem.net.edges.iter().enumerate() {
-        let w = u32::from(edge.weight);
+        let w = u32::from(weight_of(edge));
         if has(&chosen, e) {
             fixed = fixed.with_edge(e, w);
         } else if fixed.weight + w <= weight && u32::from(packing.left[e]) <= slack {

@@ -10,8 +10,8 @@ use super::Mark;
 use super::bad::two_at;
 use super::kinds::Kind;
 use super::layout::Laid;
-use arrayvec::ArrayVec;
 use graph::{Edge, Label, Node, Order, Rule, Side};
+use short_list::ShortList;
 
 // Any other kind is a fence's: the file is an accepted one.
 fn label(kind: Option<Kind>, address: u8) -> Label
@@ -35,7 +35,7 @@ fn side(kind: Option<Kind>, variable: u8) -> Side
 }
 
 // What a record of a mark is as a value.
-pub trait Record: Drop {
+pub trait Record: Copy {
     ghost MARK: { Mark };
 
     const MARK: Mark;
@@ -110,7 +110,7 @@ impl Record for Order {
 
 impl Laid<'_> {
     // Fills a list with the records of a mark.
-    pub fn fill<R: Record, const N: usize>(&self, list: &mut ArrayVec<R, N>)
+    pub fn fill<R: Record, const N: usize>(&self, list: &mut ShortList<R, N>)
         requires { (list.old.items ≡ []) × (counted self.now.counts R.MARK ≤ N) }
         ensures { list.new.items ≡ table R.in_file (width R.MARK) self.now.file.now (start_of self.now.counts R.MARK) (counted self.now.counts R.MARK) }
     {

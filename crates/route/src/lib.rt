@@ -10,8 +10,8 @@ ghost use Rattle.route.specs.Linked.{Rising};
 ghost use Rattle.route.specs.Spread.{miss};
 ghost use Rattle.route.specs.Way.{Net, EdgeLists, Found, Sealed, starts, ends};
 
-use arrayvec::ArrayVec;
 use graph::{Edge, Graph};
+use short_list::ShortList;
 
 // The edges at each node, as lists: an entry for each node has the first of them, and after these an entry for each edge has the next one at
 // its node. The number of edges says that there is none. By their ends these are the edges that lead to a node, by their starts those that
@@ -24,7 +24,7 @@ pub struct Links {
 }
 
 // The edges of a route by their numbers, in order.
-pub type EdgeRoute = ArrayVec<u16, { Graph::NODES }>;
+pub type EdgeRoute = ShortList<u16, { Graph::NODES }>;
 
 // The edges at one node, from the first on.
 #[derive(Drop)]

@@ -4,9 +4,7 @@ use mathlib.Core.List.{List, [], ◌∷◌, ◌++◌, append_assoc}
 use mathlib.Core.Path.{◌≡◌, refl, sym, ap, ◌∙◌, subst}
 use Prim.Native.Nat.{ℕ, ◌+◌, ◌<◌, ◌≤◌}
 use native.Mathlib.Omega.{arith}
-use lib.ListN.{length, get_or, drop, length-append}
-use lib.Seq.{take_at}
-use Rattle.std.specs.List.{refill}
+use lib.ListN.{length, get_or, length-append}
 use Rattle.std.specs.Prelude.{reverse, Some, None}
 use Rattle.std.proofs.lemmas.List.{reverse-append, length-reverse}
 use Rattle.unordered.specs.Pairs.{Trail, start, on, bys}
@@ -58,7 +56,5 @@ module _ {pairs : List Pair} {last : ℕ} {es : List ℕ} where
 
   -- at the first pair, turned round in place
   pub back_end : {out turned : List ℕ} {j : ℕ} → WayBack pairs last es out j → ((by : By) → get_or (bys pairs) j None ≡ Some by → ⊥) → turned ≡ reverse out
-      → refill (length out) out turned ≡ es ++ last ∷ []
-  back_end {out} {turned} w z e =
-      take_at turned (drop (length turned) out) (length out) (ap (λ (l : List ℕ). length l) e ∙ length-reverse out)
-      ∙ e ∙ sym (w.whole ∙ ap (λ (l : List ℕ). l ++ reverse out) (trail_none z w.trail))
+      → turned ≡ es ++ last ∷ []
+  back_end {out} w z e = e ∙ sym (w.whole ∙ ap (λ (l : List ℕ). l ++ reverse out) (trail_none z w.trail))

@@ -18,9 +18,11 @@ module _ (from to : List ℕ) (Ok : ℕ → Type 0) where
       let w = way_by x between b s in
       (e ∷ w.0, (h, f, o, subst⁻¹ (λ (y : ℕ). Way from to Ok y w.0 b) t w.1))
 
-pub wayless : {from to fits left : List ℕ} {a b : ℕ} {r : List ℕ} → Found from to left a b r → length r ≡ 0 → FoundUnordered from to fits left a b r
-wayless {r = x ∷ r} f z = absurd (omega (arith, z))
-wayless {from} {to} {fits} {left} {a} {b} {r = []} f z =
+pub wayless : {from to fits left : List ℕ} {a b : ℕ} {r route : List ℕ} → Found from to left a b r → length r ≡ 0 → length route ≡ 0
+    → FoundUnordered from to fits left a b route
+wayless {r = x ∷ r} f z e = absurd (omega (arith, z))
+wayless {route = x ∷ route} f z e = absurd (omega (arith, e))
+wayless {from} {to} {fits} {left} {a} {b} {r = []} {route = []} f z e =
     nothing (record { from = from; to = to; left = left; fits = fits; a = a; goal = b })
     (λ between u. let w = way_by from to (Remains left) a between b u.follows in f.none refl w.0 w.1)
 

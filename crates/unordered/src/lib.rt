@@ -1,7 +1,7 @@
 // Finds the edges of a route that does not order its ends, of the edges that are left.
 #![tactic(auto)]
 
-mod pairs;
+pub mod pairs;
 
 ghost use Rattle.std.specs.Prelude.{◌≢◌, ◌<◌};
 ghost use Rattle.graph.specs.Limits.{most_nodes};
@@ -46,5 +46,5 @@ pub fn find_route(
     if judged(net.edges, net.fits, out, a, goal) {
         return;
     }
-    spread(net, left, a, goal, kept, out);
+    spread(net.edges, net.outs, net.fits, left, a, goal, kept, out);
 }

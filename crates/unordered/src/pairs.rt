@@ -4,15 +4,14 @@ ghost use Rattle.std.specs.Prelude.{true, None, Some, List, ◌∷◌, [], ◌++
 ghost use Rattle.graph.specs.Limits.{most_nodes, most_edges};
 ghost use Rattle.hope.specs.Hope.{Dominated, most_pairs};
 ghost use Rattle.sets.specs.Whole.{whole, rows};
-ghost use Rattle.route.specs.Way.{starts, ends};
+ghost use Rattle.route.specs.Way.{Net, EdgeLists, starts, ends};
 ghost use Rattle.walked.specs.Unordered.{FoundUnordered};
 ghost use Rattle.unordered.specs.Pairs.{Chained, Trail, nodes};
 
-use crate::Linked;
 use arrayvec::ArrayVec;
-use graph::Graph;
+use graph::{Edge, Graph};
 use hope::pairs::PAIRS;
-use route::EdgeRoute;
+use route::{EdgeRoute, Links};
 use sets::{Set, has, within};
 use step::marked;
 use walked::walked_route;
@@ -112,31 +111,34 @@ impl Pairs {
     }
 }
 
-// The same as `find_route`, by the pairs: a and goal, and what is left, are handed on one by one, as each function requires only what it reads.
+// The same as `find_route`, by the pairs. What it reads is handed on one by one: it requires no lists of the edges that end at a node.
 // For each pair `kept` has its set; of what it had before nothing is read.
 pub fn spread(
-    net: &Linked<'_>,
+    edges: &[Edge],
+    outs: &Links,
+    fits: &Sets,
     left: &[u16; Graph::EDGES],
     a: usize,
     goal: usize,
     kept: &mut Sets,
     out: &mut EdgeRoute,
 )
-    requires { (a < most_nodes) × (goal < most_nodes) × (a ≢ goal) }
-    ensures { FoundUnordered (starts net.now.edges.now) (ends net.now.edges.now) (rows net.now.fits.now) left.now a goal out.new.items }
+    requires net { Net (starts edges.now) (ends edges.now) × EdgeLists (starts edges.now) outs.now.entries 0 }
+    requires ends { (a < most_nodes) × (goal < most_nodes) × (a ≢ goal) }
+    ensures { FoundUnordered (starts edges.now) (ends edges.now) (rows fits.now) left.now a goal out.new.items }
 {
     let mut pairs = Pairs::start(a);
-    kept[0] = net.fits[a];
+    kept[0] = fits[a];
     let mut i = 0;
     // by index: the list grows while it is read
     while i < pairs.list.len() {
         let ordered = kept[i];
-        for e in net.outs.at(usize::from(pairs.list[i].node), net.edges) {
+        for e in outs.at(usize::from(pairs.list[i].node), edges) {
             if left[e] == 0 {
                 continue;
             }
-            let y = usize::from(net.edges[e].to);
-            let w = marked(net.fits, ordered, y);
+            let y = usize::from(edges[e].to);
+            let w = marked(fits, ordered, y);
             if has(&w, goal) {
                 continue;
             }
@@ -148,7 +150,7 @@ pub fn spread(
                 continue;
             }
             if pairs.list.is_full() {
-                walked_route(net.edges, net.outs, net.fits, left, a, goal, kept, out);
+                walked_route(edges, outs, fits, left, a, goal, kept, out);
                 return;
             }
             kept[pairs.list.len()] = w;

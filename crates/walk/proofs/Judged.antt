@@ -4,7 +4,7 @@ use mathlib.Core.Bool.{Bool, true, false, true≢false}
 use mathlib.Core.List.{List, []}
 use mathlib.Core.Path.{◌≡◌, refl, sym, subst⁻¹, ◌∙◌}
 use Rattle.std.specs.Prelude.{Option, Some, None, IfSome, is_some}
-use Rattle.arrayvec.specs.ArrayVec.{ArrayVec}
+use Rattle.short_list.specs.ShortList.{ShortList}
 use Prim.Native.Nat.{ℕ, ◌+◌, ◌<◌}
 use native.Mathlib.Decide.{ℕ_discrete}
 use native.Mathlib.Omega.{arith}
@@ -30,12 +30,12 @@ Judged succ fits orders flags j =
     (route : List ℕ) × AskedOf succ fits (order orders j).first (order orders j).second route × (get_or flags j false ≡ ltb 0 (length route))
 
 -- the flag of a route that is looked for: a route that is found has nodes
-shown_flag : (P : ArrayVec ℕ → Type 0) (way : Option (ArrayVec ℕ)) → IfSome way (λ route. (0 < length route.items) × P route)
+shown_flag : (P : ShortList ℕ → Type 0) (way : Option (ShortList ℕ)) → IfSome way (λ route. (0 < length route.items) × P route)
     → is_some way ≡ ltb 0 (length (shown way))
 shown_flag P None h = refl
 shown_flag P (Some route) h = sym (lt-ltb 0 (length route.items) h.0)
 
-pub judged_more : (P : ArrayVec ℕ → Type 0) (succ fits : List ℕ) (orders : List Order) (flags : List Bool) (i : ℕ) (way : Option (ArrayVec ℕ)) (b : Bool)
+pub judged_more : (P : ShortList ℕ → Type 0) (succ fits : List ℕ) (orders : List Order) (flags : List Bool) (i : ℕ) (way : Option (ShortList ℕ)) (b : Bool)
     → b ≡ is_some way
     → ((j : ℕ) → j < i → Judged succ fits orders flags j)
     → i < length flags

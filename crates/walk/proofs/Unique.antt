@@ -4,7 +4,7 @@ use mathlib.Core.Bool.{Bool, true, false}
 use mathlib.Core.List.{List}
 use mathlib.Core.Path.{◌≡◌, refl, sym, ◌∙◌}
 use Rattle.std.specs.Prelude.{Option}
-use Rattle.arrayvec.specs.ArrayVec.{ArrayVec}
+use Rattle.short_list.specs.ShortList.{ShortList}
 use Prim.Native.Nat.{ℕ, ◌<◌}
 use lib.ListN.{length, get_or}
 use Rattle.graph.specs.declared.Graph.{Graph}
@@ -15,7 +15,7 @@ use Rattle.graph.proofs.Unique.{asked_unique}
 use Rattle.walk.specs.Asked.{AskedOf, shown}
 use Rattle.words.specs.Words.{WordsOf}
 
-pub route_unique : {g : Drawn.Graph} {rules : List Rule} {c : List ℕ} (succ fits : List ℕ) → WordsOf g rules c succ fits → (a b : ℕ) (v w : Option (ArrayVec ℕ))
+pub route_unique : {g : Drawn.Graph} {rules : List Rule} {c : List ℕ} (succ fits : List ℕ) → WordsOf g rules c succ fits → (a b : ℕ) (v w : Option (ShortList ℕ))
     → AskedOf succ fits a b (shown v)
     → AskedOf succ fits a b (shown w)
     → shown v ≡ shown w

@@ -1,7 +1,7 @@
 -- What the walk shows of an order.
 -- Assumes nothing.
 use Rattle.std.specs.Prelude.{true, Option, Some, None, List, [], ◌≡◌, ℕ}
-use Rattle.arrayvec.specs.ArrayVec.{ArrayVec}
+use Rattle.short_list.specs.ShortList.{ShortList}
 use Rattle.graph.specs.declared.Rule.{Rule}
 use Rattle.graph.specs.Ask.{along, AskedWithout}
 use Rattle.graph.specs.Graph.{Graph}
@@ -13,7 +13,7 @@ abbrev pub AskedOf : List ℕ → List ℕ → ℕ → ℕ → List ℕ → Type
 AskedOf succ fits a b route = (g : Graph) (rules : List Rule) (c : List ℕ) → WordsOf g rules c succ fits → AskedWithout g rules c a b route
 
 -- the nodes of the route shown; none where none is
-abbrev pub shown : Option (ArrayVec ℕ) → List ℕ
+abbrev pub shown : Option (ShortList ℕ) → List ℕ
 shown None = []
 shown (Some route) = route.items
 

@@ -12,15 +12,15 @@ ghost use Rattle.words.specs.Words.{Fitted};
 ghost use Rattle.step.specs.Rest.{Rest, GoesOn};
 ghost use Rattle.walk.specs.Search.{Decides};
 
-use arrayvec::ArrayVec;
 use graph::Graph;
 use hope::{Aim, Trail, into_set};
 use sets::{has, lowest_from, none, put_in, size, take_out, with};
+use short_list::ShortList;
 use step::mark_on;
 use words::{Sets, succ_of};
 
 // A route by its nodes.
-pub type NodeRoute = ArrayVec<u16, { Graph::NODES }>;
+pub type NodeRoute = ShortList<u16, { Graph::NODES }>;
 
 // Visiting v, which is not on the route so far: that one's nodes stand at the start of `nodes`. Whether there is a way on: then the route with
 // the first one stands in `nodes`, and `trail` has its nodes. Where there is none the route so far and `trail` are as they were.

@@ -21,4 +21,4 @@ pub returns : goal.returns
 returns c =
     let alone = c.with.ensures.0 ∙ ap (λ (w : ℕ). put w c.args.a) c.none.ensures in
     let found = one_shown alone (sym (row_at c.args.fits.now c.args.a)) refl c.trial.ensures c.if-not-trial.false in
-    rw (c.truncate.ensures.items, c.from-route.ensures.0, c.size.ensures.0) (record { asked = found.0; by_tables = found.1; some_nodes = (found.2, found.3) })
+    rw (c.truncate.ensures, c.from-route.ensures, c.size.ensures.0) (record { asked = found.0; by_tables = found.1; some_nodes = (found.2, found.3) })

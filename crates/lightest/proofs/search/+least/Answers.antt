@@ -31,7 +31,7 @@ least-c-requires t c =
     let on = rw c.in-Some.is at c.level_of-level.ensures.onward in
     let edge = on.0 c.loop-e.e (sym c.if-has.ensures) in
     let more = c.with_edge-next.ensures in
-    let cost = cost_at p c.loop-e.e c.from-w.ensures in
+    let cost = cost_at p c.loop-e.e (c.from-w.ensures ∙ c.weight_of.ensures) in
     let low : c.args.cut.now.weight + c.from-w.result < most_weight = omega (arith, so.capped.low, c.requires.1) in
     let bigger = grown _ (costs_few p) _ c.requires.0 _ edge (cut_of c.with_edge-next.result) _ cost low more.0 more.1 in
     (omega (arith, c.decreases, so.capped.low, more.1, cost, edge.1), (bigger, omega (arith, more.1, so.capped.low, c.requires.1)))
@@ -73,7 +73,7 @@ loop-e-preserved t c =
           rw (w.best-is ∙ w.least-c.ensures.best_unchanged (omega (arith, d.light, ge, deeper_low d)), w.found-is) (tried_same so few made d ge, kept)
       | else-has w ↦ rw (w.best-is, w.found-is) (elim w.else-has.branch [
         | else-has-via-then-has+else-cut-w v ↦
-            (tried_heavy so few made (edge (sym v.if-has.ensures)) (omega (arith, v.if-cut-w.false, cost_at p c.loop-e.e c.from-w.ensures)), kept)
+            (tried_heavy so few made (edge (sym v.if-has.ensures)) (omega (arith, v.if-cut-w.false, cost_at p c.loop-e.e (c.from-w.ensures ∙ c.weight_of.ensures))), kept)
         | else-has-via-else-has v ↦ (tried_skip so (sym v.if-has.ensures), kept)
       ])
     ]

@@ -47,7 +47,7 @@ with_edge-fixed-requires c =
     let kept = c.loop-e.invariant in
     let same = flags_at most_edges _ c.loop-e.e below ∙ sym c.if-has.ensures in
     let room = listed_room few kept lt (p.posed.some _ lt) same in
-    (below, omega (arith, cost_at p c.loop-e.e c.from-w.ensures, room, kept.made.small))
+    (below, omega (arith, cost_at p c.loop-e.e (c.from-w.ensures ∙ c.weight_of.ensures), room, kept.made.small))
 
 pub least-found-requires : goal.least-found-requires
 least-found-requires c =
@@ -56,7 +56,7 @@ least-found-requires c =
     let kept = c.loop-e.invariant in
     let more = c.with_edge-next.ensures in
     let light = made_most _ _ kept.made c.bound-packing.ensures.light in (
-      listed_grown (costs_few p) kept lt (p.posed.some _ lt) (cost_at p c.loop-e.e c.from-w.ensures) more (omega (arith, c.if-fixed-w.true)),
+      listed_grown (costs_few p) kept lt (p.posed.some _ lt) (cost_at p c.loop-e.e (c.from-w.ensures ∙ c.weight_of.ensures)) more (omega (arith, c.if-fixed-w.true)),
       omega (arith, more.1, c.if-fixed-w.true, light),
     )
 
@@ -68,7 +68,7 @@ loop-e-preserved c =
     let below : c.loop-e.e < most_edges = omega (arith, lt, few) in
     let heavy = p.posed.some _ lt in
     let kept = c.loop-e.invariant in
-    let w = cost_at p c.loop-e.e c.from-w.ensures in
+    let w = cost_at p c.loop-e.e (c.from-w.ensures ∙ c.weight_of.ensures) in
     let same = flags_at most_edges _ c.loop-e.e below in
     let skip = listed_skip few kept in
     elim c.if-has.branch [

@@ -1,6 +1,6 @@
 -- `lightest::search::first_cut` meets its contract: an edge of a missed route a round. What is left of all weights falls.
 -- Assumes nothing.
-use Rattle.std.proofs.Common.{arith, List, ℕ, ◌≤◌, ◌≡◌, ◌+◌, ◌*◌, get_or}
+use Rattle.std.proofs.Common.{arith, List, ℕ, ◌≤◌, ◌≡◌, ◌+◌, ◌*◌, get_or, ◌∙◌}
 use Rattle.graph.specs.Graph.{no_edge}
 use Rattle.graph.specs.Limits.{most_edges}
 use Rattle.lightest.specs.declared.Problem.{Problem}
@@ -34,16 +34,16 @@ loop-e-init c = made_none _ _ c.empty-cut.ensures
 
 pub with_edge-cut-requires : goal.with_edge-cut-requires
 with_edge-cut-requires c =
-    let t = takes c.args.problem.now c.loop-e.invariant c.bound-packing.ensures c.deref.ensures.0 c.in-Some.ensures c.from.ensures in
+    let t = takes c.args.problem.now c.loop-e.invariant c.bound-packing.ensures c.deref.ensures.0 c.in-Some.ensures (c.from.ensures ∙ c.weight_of.ensures) in
     (omega (arith, t.adds.0, costs_few c.args.problem.now), omega (arith, t.room))
 
 pub loop-e-smaller : goal.loop-e-smaller
 loop-e-smaller c =
-    let t = takes c.args.problem.now c.loop-e.invariant c.bound-packing.ensures c.deref.ensures.0 c.in-Some.ensures c.from.ensures in
+    let t = takes c.args.problem.now c.loop-e.invariant c.bound-packing.ensures c.deref.ensures.0 c.in-Some.ensures (c.from.ensures ∙ c.weight_of.ensures) in
     omega (arith, t.room, t.adds.1, c.with_edge-cut.ensures.1, t.cost)
 
 pub loop-e-preserved : goal.loop-e-preserved
 loop-e-preserved c =
-    let t = takes c.args.problem.now c.loop-e.invariant c.bound-packing.ensures c.deref.ensures.0 c.in-Some.ensures c.from.ensures in
+    let t = takes c.args.problem.now c.loop-e.invariant c.bound-packing.ensures c.deref.ensures.0 c.in-Some.ensures (c.from.ensures ∙ c.weight_of.ensures) in
     let more = c.with_edge-cut.ensures in
     grown _ (costs_few c.args.problem.now) _ c.loop-e.invariant _ t.adds _ _ t.cost (omega (arith, t.room)) more.0 more.1

@@ -9,12 +9,12 @@ use Rattle.unordered.proofs.pairs.spread.Given as goal
 
 abbrev pub invariant-loop-e : goal.invariant-loop-e
 invariant-loop-e l =
-    goal.iterator-loop-e.can_next l.e-iterator × goal.iterator-loop-e.is_finite l.e-iterator × Over l.net.outs.now (length l.net.edges.now) l.e-iterator
-    × Turn (query l.net l.left l.a l.goal) l.pairs.list.items (rows l.kept) l.i (whole l.ordered) l.e-iterator.next
+    goal.iterator-loop-e.can_next l.e-iterator × goal.iterator-loop-e.is_finite l.e-iterator × Over l.outs (length l.edges) l.e-iterator
+    × Turn (query l.edges l.fits l.left l.a l.goal) l.pairs.list.items (rows l.kept) l.i (whole l.ordered) l.e-iterator.next
 
 abbrev pub invariant-loop-i : goal.invariant-loop-i
 invariant-loop-i l =
-    let s = query l.net l.left l.a l.goal in let ps = l.pairs.list.items in Done s ps (rows l.kept) l.i × Trails s ps (rows l.kept)
+    let s = query l.edges l.fits l.left l.a l.goal in let ps = l.pairs.list.items in Done s ps (rows l.kept) l.i × Trails s ps (rows l.kept)
 
 abbrev pub decreases-loop-i : goal.decreases-loop-i
 decreases-loop-i l = most_pairs - l.i

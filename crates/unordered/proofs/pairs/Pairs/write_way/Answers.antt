@@ -1,5 +1,5 @@
 -- `unordered::pairs::Pairs::write_way` meets its contract: pair by pair, back to the first.
-use Rattle.std.proofs.Common.{arith, ℕ, List, reverse, refl, sym, ap, ◌∙◌}
+use Rattle.std.proofs.Common.{arith, ℕ, List, refl, sym, ◌∙◌}
 use Rattle.unordered.proofs.Pushed.{by_at}
 use Rattle.unordered.proofs.WayBack.{back_on, back_room, back_end}
 use Rattle.unordered.proofs.pairs.Pairs.write_way.Goals as goal
@@ -24,4 +24,4 @@ loop-j-preserved c =
 
 pub returns : goal.returns
 returns c = λ es t.
-    back_end (c.loop-j.invariant.1 es t) (λ by q. c.in_default.not-Some by (sym (by_at c.as_slice-list.ensures.value c.loop-j.invariant.0 refl) ∙ q)) (c.reverse.ensures.after ∙ ap (λ (l : List ℕ). reverse l) c.deref_mut.ensures.value)
+    back_end (c.loop-j.invariant.1 es t) (λ by q. c.in_default.not-Some by (sym (by_at c.as_slice-list.ensures.value c.loop-j.invariant.0 refl) ∙ q)) c.reverse.ensures

@@ -1,0 +1,2 @@
+-- The laws of lists that the proofs here use.
+mod Front
